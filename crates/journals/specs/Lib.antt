@@ -1,0 +1,3 @@
+pub mod Calls
+pub mod Codes
+pub mod Refusals

@@ -1,0 +1,47 @@
+// Why a call on journals was refused.
+ghost use mathlib.Core.Path.{_≡_};
+ghost use Rattle.journals.specs.Refusals.{number-of};
+
+// Stands for a ledger where a fault has none.
+pub const NO_LEDGER: u8 = 255;
+
+#[derive(Clone, Copy, PartialEq, Eq, Debug)]
+pub enum JournalsRefusal {
+    UnknownLedger,
+    NothingThere,
+    JournalFull,
+    UnknownCode,
+    ShortList,
+    // The place is where the first wrong record starts, or the length where that is wrong.
+    TornTape { place: usize },
+}
+
+#[derive(Clone, Copy, PartialEq, Eq, Debug)]
+pub struct JournalsFault {
+    pub refusal: JournalsRefusal,
+    // The ledgers as called.
+    pub first: u8,
+    pub second: u8,
+}
+
+impl JournalsFault {
+    pub fn number(&self) -> u8
+        ensures { λ r. ⌜ r ≡ number-of (now (self .entry) .refusal) ⌝ }
+    {
+        match self.refusal {
+            JournalsRefusal::UnknownLedger => 2,
+            JournalsRefusal::NothingThere => 7,
+            JournalsRefusal::JournalFull => 12,
+            JournalsRefusal::UnknownCode => 13,
+            JournalsRefusal::ShortList => 14,
+            JournalsRefusal::TornTape { .. } => 15,
+        }
+    }
+
+    // The letter of the layer where the fault arose.
+    pub fn layer(&self) -> char
+        ensures { λ r. ⌜ r ≡ 74 ⌝ }
+    {
+        'J'
+    }
+}
