@@ -1,0 +1,3 @@
+pub mod CallFacts
+pub mod CodeFacts
+pub mod RowFacts

@@ -1,8 +1,8 @@
 -- What each call on a set of journals answers, and how it moves the lists.
-use mathlib.Core.Bool.{Bool, cond, not}
+use mathlib.Core.Bool.{Bool, cond}
 use mathlib.Core.List.{List, [], _∷_, _++_}
 use Prim.Native.Nat.{ℕ}
-use lib.Dec.{eqb, ltb, leb}
+use lib.Dec.{eqb, ltb}
 use lib.ListN.{length, getD}
 use Rattle.std.specs.Results.{isOk}
 use Rattle.std.specs.declared.result.Result.{Result}
@@ -16,9 +16,17 @@ use Rattle.journals.specs.declared.fault.JournalsRefusal.the-variants.{Unknown
 abbrev pub Entries : Type 0
 Entries = ℕ → List ℕ
 
+-- what a new set holds
+abbrev pub no-entries : Entries
+no-entries p = []
+
 -- the ledgers are numbered from 0 to 7
 abbrev pub is-ledger : ℕ → Bool
 is-ledger p = ltb p 8
+
+-- go on with the rest where the test holds, else refuse
+abbrev pub check : {A : Type 0} → Bool → JournalsFault → Result A JournalsFault → Result A JournalsFault
+check holds fault rest = cond holds rest (Err fault)
 
 -- the lists with one more code at the end of p's
 abbrev pub with-entry : Entries → ℕ → ℕ → Entries
@@ -27,8 +35,8 @@ with-entry entries p code q = cond (eqb q p) (entries q ++ (code ∷ [])) (entri
 -- 2, then 13, then 12
 abbrev pub append-answer : Entries → ℕ → ℕ → Result Unit JournalsFault
 append-answer entries p code =
-    cond (not (is-ledger p)) (Err (refused-for p UnknownLedger))
-    (cond (not (is-code code)) (Err (refused-for p UnknownCode)) (cond (leb 8 (length (entries p))) (Err (refused-for p JournalFull)) (Ok tt)))
+    check (is-ledger p) (refused-for p UnknownLedger)
+    (check (is-code code) (refused-for p UnknownCode) (check (ltb (length (entries p)) 8) (refused-for p JournalFull) (Ok tt)))
 
 abbrev pub append-after : Entries → ℕ → ℕ → Entries
 append-after entries p code = cond (isOk (append-answer entries p code)) (with-entry entries p code) entries
@@ -36,9 +44,9 @@ append-after entries p code = cond (isOk (append-answer entries p code)) (with-e
 -- 2, then 7
 abbrev pub read-answer : Entries → ℕ → ℕ → Result ℕ JournalsFault
 read-answer entries p place =
-    cond (not (is-ledger p)) (Err (refused-for p UnknownLedger))
-    (cond (leb (length (entries p)) place) (Err (refused-for p NothingThere)) (Ok (getD (entries p) place 0)))
+    check (is-ledger p) (refused-for p UnknownLedger)
+    (check (ltb place (length (entries p))) (refused-for p NothingThere) (Ok (getD (entries p) place 0)))
 
 -- 2
 abbrev pub count-answer : Entries → ℕ → Result ℕ JournalsFault
-count-answer entries p = cond (not (is-ledger p)) (Err (refused-for p UnknownLedger)) (Ok (length (entries p)))
+count-answer entries p = check (is-ledger p) (refused-for p UnknownLedger) (Ok (length (entries p)))

@@ -1,6 +1,6 @@
 // Why a call on journals was refused.
 ghost use mathlib.Core.Path.{_≡_};
-ghost use Rattle.journals.specs.Refusals.{number-of};
+ghost use Rattle.journals.specs.Refusals.{number-of, refused, refused-for};
 
 // Stands for a ledger where a fault has none.
 pub const NO_LEDGER: u8 = 255;
@@ -25,6 +25,24 @@ pub struct JournalsFault {
 }
 
 impl JournalsFault {
+    // The refusal of a call for one ledger.
+    pub(crate) fn of(ledger: u8, refusal: JournalsRefusal) -> JournalsFault
+        ensures { λ r. ⌜ r ≡ refused-for ledger refusal ⌝ }
+    {
+        JournalsFault {
+            refusal,
+            first: ledger,
+            second: NO_LEDGER,
+        }
+    }
+
+    // The refusal of a call that names no ledger.
+    pub(crate) fn of_none(refusal: JournalsRefusal) -> JournalsFault
+        ensures { λ r. ⌜ r ≡ refused refusal ⌝ }
+    {
+        JournalsFault::of(NO_LEDGER, refusal)
+    }
+
     pub fn number(&self) -> u8
         ensures { λ r. ⌜ r ≡ number-of (now (self .entry) .refusal) ⌝ }
     {

@@ -1,4 +1,5 @@
 // What the ledgers wrote: one journal for each ledger, and two sets of journals that keep it.
 pub mod entry;
 pub mod fault;
+pub mod rows;
 pub mod set;

@@ -1,0 +1,74 @@
+// How the rows are made, written and read.
+ghost use mathlib.Core.List.{[], _∷_, _++_};
+ghost use mathlib.Core.Path.{_≡_};
+ghost use Prim.Native.Nat.{_<_};
+ghost use Rattle.journals.specs.Calls.{no-entries};
+ghost use Rattle.journals.specs.Codes.{code-of};
+ghost use Rattle.journals.specs.Rows.{codes, entries-of};
+use super::Row;
+use super::Rows;
+use crate::entry::Entry;
+use crate::fault::JournalsFault;
+use crate::fault::JournalsRefusal;
+use crate::set::Journals;
+
+impl Row {
+    fn push(&mut self, entry: Entry)
+        requires { ⌜ now self .len < 8 ⌝ }
+        ensures { λ _. ⌜ codes (now (self .exit)) ≡ codes (now (self .entry)) ++ (code-of entry ∷ []) ⌝ }
+    {
+        self.entries[self.len] = entry;
+        self.len += 1;
+    }
+}
+
+impl Rows {
+    // Rows in which no ledger has written.
+    pub fn new() -> Rows
+        ensures { λ r. ⌜ entries-of r ≡ no-entries ⌝ }
+    {
+        let row = Row {
+            entries: [Entry::Begin; 8],
+            len: 0,
+        };
+        Rows { rows: [row; 8] }
+    }
+}
+
+pub impl Journals for Rows as RowsJournals {
+    ghost entries = { entries-of };
+
+    fn append(&mut self, ledger: u8, code: u8) -> Result<(), JournalsFault> {
+        if ledger >= 8 {
+            return Err(JournalsFault::of(ledger, JournalsRefusal::UnknownLedger));
+        }
+        let Some(entry) = Entry::from_code(code) else {
+            return Err(JournalsFault::of(ledger, JournalsRefusal::UnknownCode));
+        };
+        let mut row = self.rows[ledger as usize];
+        if row.len >= 8 {
+            return Err(JournalsFault::of(ledger, JournalsRefusal::JournalFull));
+        }
+        row.push(entry);
+        self.rows[ledger as usize] = row;
+        Ok(())
+    }
+
+    fn read(&self, ledger: u8, place: usize) -> Result<u8, JournalsFault> {
+        if ledger >= 8 {
+            return Err(JournalsFault::of(ledger, JournalsRefusal::UnknownLedger));
+        }
+        let row = self.rows[ledger as usize];
+        if place >= row.len {
+            return Err(JournalsFault::of(ledger, JournalsRefusal::NothingThere));
+        }
+        Ok(row.entries[place].code())
+    }
+
+    fn count(&self, ledger: u8) -> Result<usize, JournalsFault> {
+        if ledger >= 8 {
+            return Err(JournalsFault::of(ledger, JournalsRefusal::UnknownLedger));
+        }
+        Ok(self.rows[ledger as usize].len)
+    }
+}
