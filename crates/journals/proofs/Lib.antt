@@ -1,3 +1,4 @@
 pub mod CallFacts
 pub mod CodeFacts
+pub mod RecordFacts
 pub mod RowFacts

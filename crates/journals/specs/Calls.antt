@@ -7,7 +7,7 @@ use lib.ListN.{length, getD}
 use Rattle.std.specs.Results.{isOk}
 use Rattle.std.specs.declared.result.Result.{Result}
 use Rattle.std.specs.declared.result.Result.the-variants.{Ok, Err}
-use Rattle.journals.specs.Codes.{is-code}
+use Rattle.journals.specs.Codes.{is-code, is-ledger}
 use Rattle.journals.specs.Refusals.{refused-for}
 use Rattle.journals.specs.declared.fault.JournalsFault.{JournalsFault}
 use Rattle.journals.specs.declared.fault.JournalsRefusal.the-variants.{UnknownLedger, NothingThere, JournalFull, UnknownCode}
@@ -19,10 +19,6 @@ Entries = ℕ → List ℕ
 -- what a new set holds
 abbrev pub no-entries : Entries
 no-entries p = []
-
--- the ledgers are numbered from 0 to 7
-abbrev pub is-ledger : ℕ → Bool
-is-ledger p = ltb p 8
 
 -- go on with the rest where the test holds, else refuse
 abbrev pub check : {A : Type 0} → Bool → JournalsFault → Result A JournalsFault → Result A JournalsFault

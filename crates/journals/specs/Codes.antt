@@ -1,9 +1,13 @@
--- The entries and their codes.
+-- The ledgers, the entries and the entries' codes.
 use mathlib.Core.Bool.{Bool, true, false, _&&_}
 use Prim.Native.Nat.{ℕ}
-use lib.Dec.{leb}
+use lib.Dec.{leb, ltb}
 use Rattle.journals.specs.declared.entry.Entry.{Entry}
 use Rattle.journals.specs.declared.entry.Entry.the-variants.{Begin, ReadyYes, ReadyNo, CommitReached, AbortReached, CommitReceived, AbortReceived, TransactionCommit, TransactionAbort, Dispute}
+
+-- the ledgers are numbered from 0 to 7
+abbrev pub is-ledger : ℕ → Bool
+is-ledger p = ltb p 8
 
 abbrev pub code-of : Entry → ℕ
 code-of Begin = 1

@@ -1,0 +1,14 @@
+-- What a tape means.
+use mathlib.Core.List.{List}
+use lib.ListN.{take}
+use Rattle.journals.specs.Calls.{Entries}
+use Rattle.journals.specs.Records.{codes-of}
+use Rattle.journals.specs.declared.records.Record.{Record}
+use Rattle.journals.specs.declared.tape.Tape.{Tape}
+
+abbrev pub records-of : Tape → List Record
+records-of tape = take (tape .len) (tape .records)
+
+-- each ledger's codes: those of its records, in the tape's order
+abbrev pub entries-of : Tape → Entries
+entries-of tape p = codes-of p (records-of tape)

@@ -1,0 +1,22 @@
+// The tape: a set of journals that keeps one list of records for all ledgers.
+ghost use mathlib.Core.Bool.{true};
+ghost use mathlib.Core.Path.{_≡_};
+ghost use Prim.Native.Nat.{ℕ, _≤_, _<_};
+ghost use lib.ListN.{length, take, getD};
+ghost use Rattle.journals.specs.Records.{lawful, no-track, track-of};
+use crate::records::Record;
+use crate::records::Track;
+mod calls;
+
+#[derive(Drop)]
+pub struct Tape {
+    // The first `len` places hold the records, the oldest first.
+    records: [Record; 64],
+    len: usize,
+    // What the records tell of each ledger, so that no call has to count them.
+    tracks: [Track; 8],
+    ghost whole: { (length records ≡ 64) × (length tracks ≡ 8) },
+    ghost within: { len ≤ 64 },
+    ghost kept: { lawful (take len records) ≡ true },
+    ghost tracked: { ((p : ℕ) → p < 8 → getD tracks p no-track ≡ track-of p (take len records)) },
+}
