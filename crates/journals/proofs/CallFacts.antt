@@ -4,8 +4,13 @@ use mathlib.Core.List.{[], _∷_, _++_}
 use mathlib.Core.Path.{_≡_, refl}
 use Prim.Native.Nat.{ℕ, _<_, _≤_}
 use lib.ListN.{length, getD}
+use native.Mathlib.Omega.{arith}
+use Rattle.std.proofs.shelf.Maps.{nth-getD, nth-past}
 use Rattle.std.proofs.shelf.Tests.{lt-ltb, le-ltb}
+use Rattle.std.proofs.shelf.Ways.{tells}
+use Rattle.std.specs.declared.option.Option.the-variants.{Some, None}
 use Rattle.std.specs.declared.result.Result.the-variants.{Ok, Err}
+use Rattle.std.specs.shelf.Maps.{nth}
 use Rattle.journals.specs.Calls.{Entries, append-answer, append-after, with-entry, read-answer, count-answer}
 use Rattle.journals.specs.Codes.{is-code}
 use Rattle.journals.specs.Refusals.{refused-for}
@@ -32,3 +37,9 @@ module _ (E : Entries) (p : ℕ) (below : p < 8) where
 
   pub counted-answer : count-answer E p ≡ Ok (length (E p))
   counted-answer = rw (lt-ltb p 8 below)
+
+  pub nth-answer : (place code : ℕ) → nth (E p) place ≡ Some code → read-answer E p place ≡ Ok code
+  nth-answer place code e = grind (arith, tells, nth-getD (E p) place 0, nth-past (E p) place)
+
+  pub no-nth-answer : (place : ℕ) → nth (E p) place ≡ None → read-answer E p place ≡ Err (refused-for p NothingThere)
+  no-nth-answer place e = grind (arith, tells, nth-getD (E p) place 0, nth-past (E p) place)

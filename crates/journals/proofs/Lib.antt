@@ -2,3 +2,4 @@ pub mod CallFacts
 pub mod CodeFacts
 pub mod RecordFacts
 pub mod RowFacts
+pub mod TapeFacts

@@ -1,21 +1,25 @@
 -- What lists of records tell, when one more is written, and what a lawful list keeps to.
 use mathlib.Core.Bool.{Bool, true, false, cond, _&&_}
 use mathlib.Core.List.{List, [], _∷_, _++_, map}
+use mathlib.Core.Logic.{⊎-elim}
 use mathlib.Core.Path.{_≡_, refl, ap, sym, _∙_}
-use Prim.Native.Nat.{ℕ, suc, _+_, _<_, _≤_}
+use Prim.Native.Nat.{ℕ, zero, suc, _+_, _-_, _<_, _≤_}
 use lib.Dec.{eqb, leb, ltb}
-use lib.ListN.{length}
+use lib.ListN.{length, getD, drop}
 use native.Mathlib.Nat.{add-zero, zero-add}
 use native.Mathlib.Omega.{arith}
 use Rattle.std.proofs.shelf.Elements.{kept-by-append, all-push, all-kept-by, all-map, all-weaker}
 use Rattle.std.proofs.shelf.Lists.{length-append, map-append, append-nil, map-push}
-use Rattle.std.proofs.shelf.Tests.{and-parts, and-from, leb-true, le-leb, ltb-true, eqb-true, cond-both, cases-bool}
+use Rattle.std.proofs.shelf.Tests.{and-parts, and-from, leb-true, le-leb, ltb-true, eqb-true, cases-lt}
 use Rattle.std.proofs.shelf.Ways.{tells, decides-by-and, decides-below-and, decides-at}
 use Rattle.std.specs.Orderings.{Decides}
 use Rattle.std.specs.declared.option.Option.{Option}
 use Rattle.std.specs.declared.option.Option.the-variants.{Some, None}
 use Rattle.std.specs.shelf.Lists.{All, kept-by}
+use Rattle.std.specs.shelf.Maps.{nth}
 use Rattle.owned.proofs.Crowd.{owned-by, crowd}
+use Rattle.owned.proofs.Kept.{next-some, next-none}
+use Rattle.owned.specs.Search.{next-of}
 use Rattle.journals.specs.Codes.{is-code, is-ledger}
 use Rattle.journals.specs.Records.{is-of, codes-of, count-of, latest-from, latest, is-record, every, every-below, lawful, track-of}
 use Rattle.journals.specs.declared.records.Record.{Record}
@@ -30,8 +34,8 @@ module _ (p : ℕ) (rs : List Record) (r : Record) where
 
   pub codes-push : codes-of p (rs ++ (r ∷ [])) ≡ cond (is-of p r) (codes-of p rs ++ (r .code ∷ [])) (codes-of p rs)
   codes-push =
-    ap (map (λ (x : Record). x .code)) kept-push ∙ map-append (λ (x : Record). x .code) (kept-by (is-of p) rs) (cond (is-of p r) (r ∷ []) [])
-    ∙ elim (is-of p r) as (λ b. codes-of p rs ++ map (λ x. x .code) (cond b (r ∷ []) []) ≡ cond b (codes-of p rs ++ (r .code ∷ [])) (codes-of p rs)) [ true ↦ refl | false ↦ append-nil _ ]
+      ap (map (λ (x : Record). x .code)) kept-push ∙ map-append (λ (x : Record). x .code) (kept-by (is-of p) rs) (cond (is-of p r) (r ∷ []) [])
+      ∙ elim (is-of p r) as (λ b. codes-of p rs ++ map (λ x. x .code) (cond b (r ∷ []) []) ≡ cond b (codes-of p rs ++ (r .code ∷ [])) (codes-of p rs)) [ true ↦ refl | false ↦ append-nil _ ]
 
 latest-from-push : (p : ℕ) (rs : List Record) (r : Record) (i : ℕ) (before : Option ℕ) → latest-from i p (rs ++ (r ∷ [])) before ≡ cond (is-of p r) (Some (i + length rs)) (latest-from i p rs before)
 latest-from-push p [] r i before = ap (λ n. cond (is-of p r) (Some n) before) (sym (add-zero i))
@@ -44,8 +48,8 @@ track-push p rs r =
     let counted = count-push p rs r in
     let found = latest-from-push p rs r 0 None in
     elim (is-of p r) as (λ b. count-of p (rs ++ (r ∷ [])) ≡ cond b (count-of p rs + 1) (count-of p rs) → latest p (rs ++ (r ∷ [])) ≡ cond b (Some (0 + length rs)) (latest p rs) → track-of p (rs ++ (r ∷ [])) ≡ cond b (record { count = count-of p rs + 1; latest = Some (length rs) }) (track-of p rs)) [
-      true ↦ λ n l. rw (n, l, zero-add)
-    | false ↦ λ n l. rw (n, l)
+      | true ↦ λ n l. rw (n, l, zero-add)
+      | false ↦ λ n l. rw (n, l)
     ] counted found
 
 -- a test of each element, and of each number below eight
@@ -67,14 +71,14 @@ module _ (rs : List Record) (law : lawful rs ≡ true) where
 
   pub codes-known : (p : ℕ) → All (λ c. is-code c ≡ true) (codes-of p rs)
   codes-known p =
-    all-map (λ c. is-code c ≡ true) (λ r. r .code) (kept-by (is-of p) rs)
-    (all-kept-by (is-of p) (λ r. is-code (r .code) ≡ true) rs (all-weaker (λ r. is-record r ≡ true) (λ r. is-code (r .code) ≡ true) (λ r e. and-parts (is-ledger (r .ledger)) (is-code (r .code)) e .1) rs known))
+      all-map (λ c. is-code c ≡ true) (λ r. r .code) (kept-by (is-of p) rs)
+      (all-kept-by (is-of p) (λ r. is-code (r .code) ≡ true) rs (all-weaker (λ r. is-record r ≡ true) (λ r. is-code (r .code) ≡ true) (λ r e. and-parts (is-ledger (r .ledger)) (is-code (r .code)) e .1) rs known))
 
   pub lawful-push : (r : Record) → is-record r ≡ true → count-of (r .ledger) rs < 8 → lawful (rs ++ (r ∷ [])) ≡ true
   lawful-push r right room =
-    and-from (every is-record (rs ++ (r ∷ []))) (every-below (λ p. leb (count-of p (rs ++ (r ∷ []))) 8) 8)
-    (decides-every is-record (rs ++ (r ∷ [])) .1 (all-push (λ x. is-record x ≡ true) rs r known right))
-    (decides-below (λ p. leb (count-of p (rs ++ (r ∷ []))) 8) 8 .1 (λ p below. le-leb (count-of p (rs ++ (r ∷ []))) 8 (still p below)))
+      and-from (every is-record (rs ++ (r ∷ []))) (every-below (λ p. leb (count-of p (rs ++ (r ∷ []))) 8) 8)
+      (decides-every is-record (rs ++ (r ∷ [])) .1 (all-push (λ x. is-record x ≡ true) rs r known right))
+      (decides-below (λ p. leb (count-of p (rs ++ (r ∷ []))) 8) 8 .1 (λ p below. le-leb (count-of p (rs ++ (r ∷ []))) 8 (still p below)))
     where
       still : (p : ℕ) → p < 8 → count-of p (rs ++ (r ∷ [])) ≤ 8
       still p below = grind (arith, tells, count-push p rs r, few p below)
@@ -84,17 +88,34 @@ module _ (rs : List Record) (law : lawful rs ≡ true) where
     where
       other : (r : Record) → is-ledger (r .ledger) ≡ true → is-of p r ≡ false
       other r e = grind (arith, tells)
+
       none-kept : (xs : List Record) → All (λ r. is-of p r ≡ false) xs → kept-by (is-of p) xs ≡ []
       none-kept [] tt = refl
       none-kept (x ∷ xs) h = rw (h .0) (none-kept xs (h .1))
 
+  pub at-most-8 : (p : ℕ) → count-of p rs ≤ 8
+  at-most-8 p = ⊎-elim (few p) (λ past. omega (arith, ap length (none-past p past))) (cases-lt p 8)
+
   -- eight ledgers with at most eight records each
   pub at-most-64 : length rs ≤ 64
   at-most-64 =
-    crowd (λ r p. is-of p r) ledgers 8 rs (all-weaker (λ r. is-record r ≡ true) (λ r. owned-by (λ x p. is-of p x) ledgers r ≡ true) (λ r e. some-ledger r (and-parts (is-ledger (r .ledger)) (is-code (r .code)) e .0)) rs known)
-    (few 0 (omega arith), (few 1 (omega arith), (few 2 (omega arith), (few 3 (omega arith), (few 4 (omega arith), (few 5 (omega arith), (few 6 (omega arith), (few 7 (omega arith), tt))))))))
+      crowd (λ r p. is-of p r) ledgers 8 rs (all-weaker (λ r. is-record r ≡ true) (λ r. owned-by (λ x p. is-of p x) ledgers r ≡ true) (λ r e. some-ledger r (and-parts (is-ledger (r .ledger)) (is-code (r .code)) e .0)) rs known)
+      (few 0 (omega arith), (few 1 (omega arith), (few 2 (omega arith), (few 3 (omega arith), (few 4 (omega arith), (few 5 (omega arith), (few 6 (omega arith), (few 7 (omega arith), tt))))))))
     where
       ledgers : List ℕ
       ledgers = 0 ∷ 1 ∷ 2 ∷ 3 ∷ 4 ∷ 5 ∷ 6 ∷ 7 ∷ []
+
       some-ledger : (r : Record) → is-ledger (r .ledger) ≡ true → owned-by (λ x p. is-of p x) ledgers r ≡ true
       some-ledger r e = grind (arith, tells)
+
+-- what the search tells of the codes that are left
+module _ (p : ℕ) (rs : List Record) (start : ℕ) where
+  pub codes-next : (i : ℕ) (d : Record) → next-of (is-of p) rs start ≡ Some i → codes-of p (drop start rs) ≡ getD rs i d .code ∷ codes-of p (drop (i + 1) rs)
+  codes-next i d e = ap (map (λ (r : Record). r .code)) (next-some (is-of p) rs start i e .splits d)
+
+  pub codes-end : next-of (is-of p) rs start ≡ None → codes-of p (drop start rs) ≡ []
+  codes-end e = ap (map (λ (r : Record). r .code)) (next-none (is-of p) rs start e)
+
+pub nth-ahead : (codes rest : List ℕ) (c left : ℕ) → codes ≡ c ∷ rest → (left ≡ 0 → ⊥) → nth codes left ≡ nth rest (left - 1)
+nth-ahead codes rest c zero e some = absurd (some refl)
+nth-ahead codes rest c (suc n) e some = let back : n ≡ suc n - 1 = omega arith in ap (λ xs. nth xs (suc n)) e ∙ ap (nth rest) back

@@ -26,7 +26,7 @@ check holds fault rest = cond holds rest (Err fault)
 
 -- the lists with one more code at the end of p's
 abbrev pub with-entry : Entries → ℕ → ℕ → Entries
-with-entry entries p code q = cond (eqb q p) (entries q ++ (code ∷ [])) (entries q)
+with-entry entries p code q = cond (eqb p q) (entries q ++ (code ∷ [])) (entries q)
 
 -- 2, then 13, then 12
 abbrev pub append-answer : Entries → ℕ → ℕ → Result Unit JournalsFault

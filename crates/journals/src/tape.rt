@@ -6,6 +6,7 @@ ghost use lib.ListN.{length, take, getD};
 ghost use Rattle.journals.specs.Records.{lawful, no-track, track-of};
 use crate::records::Record;
 use crate::records::Track;
+
 mod calls;
 
 #[derive(Drop)]

@@ -1,7 +1,7 @@
 // Elements that have an owner, and the one search for the next element of an owner.
 ghost use mathlib.Core.Bool.{Bool, true};
 ghost use mathlib.Core.Path.{_≡_};
-ghost use Rattle.owned.specs.Search.{next-of};
+ghost use Rattle.owned.specs.Search.{First, next-of};
 
 // An element that belongs to one owner at most.
 pub trait Owned {
@@ -18,7 +18,8 @@ pub trait Owned {
 
 // The index of the first element at or after `start` that belongs to `owner`.
 pub fn next_of<T: Owned>(elements: &[T], start: usize, owner: &T::Owner) -> Option<usize>
-    ensures { λ r. ⌜ r ≡ next-of (λ x. belongs x (now (owner .entry))) (now (elements .entry)) start ⌝ }
+    ensures answer { λ r. ⌜ r ≡ next-of (λ x. belongs x (now (owner .entry))) (now (elements .entry)) start ⌝ }
+    ensures first { λ r. ⌜ First (λ x. belongs x (now (owner .entry))) (now (elements .entry)) start r ⌝ }
 {
     for i in start..elements.len() {
         if elements[i].belongs_to(owner) {

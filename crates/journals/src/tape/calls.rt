@@ -1,10 +1,18 @@
 // How a tape is made, written and read.
+ghost use mathlib.Core.Bool.{true};
+ghost use mathlib.Core.List.{[], _∷_, _++_};
 ghost use mathlib.Core.Path.{_≡_};
-ghost use mathlib.Core.List.{[]};
-ghost use Rattle.journals.specs.Tape.{records-of};
+ghost use Prim.Native.Nat.{_<_};
+ghost use Rattle.journals.specs.Records.{count-of, is-record};
+ghost use Rattle.journals.specs.Tape.{entries-of, records-of};
 use super::Tape;
+use crate::entry::Entry;
+use crate::fault::JournalsFault;
+use crate::fault::JournalsRefusal;
 use crate::records::Record;
 use crate::records::Track;
+use crate::records::code_at;
+use crate::set::Journals;
 
 impl Tape {
     // A tape on which no ledger has written.
@@ -21,5 +29,62 @@ impl Tape {
             len: 0,
             tracks: [track; 8],
         }
+    }
+
+    // The records, the oldest first.
+    fn written(&self) -> &[Record]
+        ensures { λ r. ⌜ now r ≡ records-of (now (self .entry)) ⌝ }
+    {
+        &self.records[0..self.len]
+    }
+
+    // Every record comes in here: at most eight of each ledger, so that the 64 places suffice.
+    fn push(&mut self, new: Record)
+        requires { ⌜ is-record new ≡ true ⌝ ∗ ⌜ count-of (new .ledger) (records-of (now self)) < 8 ⌝ }
+        ensures { λ _. ⌜ records-of (now (self .exit)) ≡ records-of (now (self .entry)) ++ (new ∷ []) ⌝ }
+    {
+        let ledger = new.ledger as usize;
+        let track = Track {
+            count: self.tracks[ledger].count + 1,
+            latest: Some(self.len),
+        };
+        self.records[self.len] = new;
+        self.len += 1;
+        self.tracks[ledger] = track;
+    }
+}
+
+pub impl Journals for Tape as TapeJournals {
+    ghost entries = { entries-of };
+
+    fn append(&mut self, ledger: u8, code: u8) -> Result<(), JournalsFault> {
+        if ledger >= 8 {
+            return Err(JournalsFault::of(ledger, JournalsRefusal::UnknownLedger));
+        }
+        if Entry::from_code(code).is_none() {
+            return Err(JournalsFault::of(ledger, JournalsRefusal::UnknownCode));
+        }
+        if self.tracks[ledger as usize].count >= 8 {
+            return Err(JournalsFault::of(ledger, JournalsRefusal::JournalFull));
+        }
+        self.push(Record { ledger, code });
+        Ok(())
+    }
+
+    fn read(&self, ledger: u8, place: usize) -> Result<u8, JournalsFault> {
+        if ledger >= 8 {
+            return Err(JournalsFault::of(ledger, JournalsRefusal::UnknownLedger));
+        }
+        match code_at(self.written(), ledger, place) {
+            Some(code) => Ok(code),
+            None => Err(JournalsFault::of(ledger, JournalsRefusal::NothingThere)),
+        }
+    }
+
+    fn count(&self, ledger: u8) -> Result<usize, JournalsFault> {
+        if ledger >= 8 {
+            return Err(JournalsFault::of(ledger, JournalsRefusal::UnknownLedger));
+        }
+        Ok(self.tracks[ledger as usize].count)
     }
 }
