@@ -1,3 +1,4 @@
+pub mod ByteFacts
 pub mod CallFacts
 pub mod CodeFacts
 pub mod RecordFacts

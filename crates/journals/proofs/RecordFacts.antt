@@ -8,10 +8,10 @@ use lib.Dec.{eqb, leb, ltb}
 use lib.ListN.{length, getD, drop}
 use native.Mathlib.Nat.{add-zero, zero-add}
 use native.Mathlib.Omega.{arith}
-use Rattle.std.proofs.shelf.Elements.{kept-by-append, all-push, all-kept-by, all-map, all-weaker}
-use Rattle.std.proofs.shelf.Lists.{length-append, map-append, append-nil, map-push}
-use Rattle.std.proofs.shelf.Tests.{and-parts, and-from, leb-true, le-leb, ltb-true, eqb-true, cases-lt}
-use Rattle.std.proofs.shelf.Ways.{tells, decides-by-and, decides-below-and, decides-at}
+use Rattle.std.proofs.shelf.Elements.{kept-by-append, all-getD, all-push, all-kept-by, all-map, all-weaker}
+use Rattle.std.proofs.shelf.Lists.{length-append, map-append, append-nil, getD-at}
+use Rattle.std.proofs.shelf.Tests.{and-parts, and-from, leb-true, le-leb, eq-eqb, cases-lt}
+use Rattle.std.proofs.shelf.Ways.{tells, decides-by-and, decides-below-and}
 use Rattle.std.specs.Orderings.{Decides}
 use Rattle.std.specs.declared.option.Option.{Option}
 use Rattle.std.specs.declared.option.Option.the-variants.{Some, None}
@@ -107,6 +107,21 @@ module _ (rs : List Record) (law : lawful rs ≡ true) where
 
       some-ledger : (r : Record) → is-ledger (r .ledger) ≡ true → owned-by (λ x p. is-of p x) ledgers r ≡ true
       some-ledger r e = grind (arith, tells)
+
+-- one record among others: it is a record, and not the ninth of its ledger
+module _ (before : List Record) (r : Record) (after : List Record) (law : lawful (before ++ (r ∷ after)) ≡ true) where
+  pub record-within : is-record r ≡ true
+  record-within =
+    let here : getD (before ++ (r ∷ after)) (length before) r ≡ r = getD-at before r after r (length before) refl in
+    let long : length before < length (before ++ (r ∷ after)) = simp length-append (omega arith) in
+    rw here at (all-getD (λ x. is-record x ≡ true) (before ++ (r ∷ after)) (length before) r long (known (before ++ (r ∷ after)) law))
+
+  pub no-ninth : count-of (r .ledger) before < 8
+  no-ninth =
+    let p = r .ledger in
+    let all : count-of p (before ++ (r ∷ after)) ≡ count-of p before + count-of p (r ∷ after) = ap length (kept-by-append (is-of p) before (r ∷ after)) ∙ length-append _ _ in
+    let own : count-of p (r ∷ after) ≡ suc (count-of p after) = rw (eq-eqb p p refl) in
+    omega (arith, at-most-8 (before ++ (r ∷ after)) law p, all, own)
 
 -- what the search tells of the codes that are left
 module _ (p : ℕ) (rs : List Record) (start : ℕ) where
