@@ -4,14 +4,15 @@ use mathlib.Core.List.{List, [], _∷_, _++_, append-assoc}
 use mathlib.Core.Path.{_≡_, refl, ap, sym, _∙_}
 use Prim.Native.Nat.{ℕ, suc, _+_, _*_, _/_, _%_, _<_, _≤_}
 use lib.Dec.{eqb, leb, ltb}
-use lib.ListN.{length}
-use native.Mathlib.Nat.{mul-suc}
+use lib.ListN.{length, getD, drop}
+use native.Mathlib.Nat.{add-assoc, mul-suc}
 use native.Mathlib.Omega.{arith}
-use Rattle.std.proofs.shelf.Lists.{append-nil, length-append}
+use Rattle.std.proofs.shelf.Lists.{append-nil, drop-more}
 use Rattle.std.proofs.shelf.Tests.{and-parts, and-from, eq-eqb, eqb-true, le-leb, lt-ltb}
-use Rattle.std.specs.declared.result.Result.{Result}
+use Rattle.std.specs.Results.{isOk}
 use Rattle.std.specs.declared.result.Result.the-variants.{Ok, Err}
 use Rattle.journals.specs.Bytes.{trailer, record-bytes, laid-after, laid, is-next, read-after, read-tape, whole-length}
+use Rattle.journals.specs.Calls.{Entries, append-answer}
 use Rattle.journals.specs.Codes.{is-code, is-ledger}
 use Rattle.journals.specs.Records.{count-of, is-record, lawful}
 use Rattle.journals.specs.declared.records.Record.{Record}
@@ -99,3 +100,32 @@ read-tape-lays bytes rs e = by-length (whole-length (length bytes)) e
     by-length : (fits : Bool) → cond fits (read-after [] bytes) (Err (length bytes)) ≡ Ok rs → laid rs ≡ bytes
     by-length true read = let r = read-lays [] bytes rs read in ap laid (r .whole) ∙ r .lays
     by-length false wrong = absurd (let z : _≡_ {A = ℕ} 0 1 = cc in omega arith)
+
+both-checks : {A B : Type 0} (x : A) (f g : B) (first second : Bool) → isOk (cond first (cond second (Ok x) (Err f)) (Err g)) ≡ (first && (second && true))
+both-checks x f g true true = refl
+both-checks x f g true false = refl
+both-checks x f g false second = refl
+
+-- what a tape answers to four bytes whose trailer is right
+pub right-trailer : (E : Entries) (before : List Record) (ledger code low high : ℕ) → length (E ledger) ≡ count-of ledger before → ledger < 8 → low < 256 → low + high * 256 ≡ trailer before ledger → isOk (append-answer E ledger code) ≡ is-next before ledger code low high
+right-trailer E before ledger code low high long below small e =
+    let t = trailer before ledger in
+    let lows : low ≡ t % 256 = omega arith in
+    let highs : high ≡ t / 256 = omega arith in
+    rw (lt-ltb ledger 8 below, long, eq-eqb low (t % 256) lows, eq-eqb high (t / 256) highs) (both-checks tt _ _ (is-code code) (ltb (count-of ledger before) 8))
+
+pub read-whole : (bytes : List ℕ) → length bytes ≤ 256 → length bytes % 4 ≡ 0 → read-tape bytes ≡ read-after [] bytes
+read-whole bytes short even =
+    rw (le-leb (length bytes) 256 short, eq-eqb (length bytes % 4) 0 even)
+
+-- one step of reading, at the place where a record starts
+pub read-step : (before : List Record) (bytes : List ℕ) (start : ℕ) → start + 3 < length bytes → read-after before (drop start bytes) ≡ cond (is-next before (getD bytes start 0) (getD bytes (start + 1) 0) (getD bytes (start + 2) 0) (getD bytes (start + 3) 0)) (read-after (before ++ (record { ledger = getD bytes start 0; code = getD bytes (start + 1) 0 } ∷ [])) (drop (start + 4) bytes)) (Err (4 * length before))
+read-step before bytes start long = ap (read-after before) four
+  where
+    four : drop start bytes ≡ getD bytes start 0 ∷ (getD bytes (start + 1) 0 ∷ (getD bytes (start + 2) 0 ∷ (getD bytes (start + 3) 0 ∷ drop (start + 4) bytes)))
+    four =
+        let one = drop-more bytes start 0 (omega arith) in
+        let two = rw add-assoc at (drop-more bytes (start + 1) 0 (omega arith)) in
+        let three = rw add-assoc at (drop-more bytes (start + 2) 0 (omega arith)) in
+        let last = rw add-assoc at (drop-more bytes (start + 3) 0 (omega arith)) in
+        cc

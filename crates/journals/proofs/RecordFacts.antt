@@ -52,6 +52,18 @@ track-push p rs r =
       | false ↦ λ n l. rw (n, l)
     ] counted found
 
+latest-from-within : (p : ℕ) (rs : List Record) (i k : ℕ) (before : Option ℕ) → ((b : ℕ) → before ≡ Some b → b < i) → latest-from i p rs before ≡ Some k → k < i + length rs
+latest-from-within p [] i k before earlier e = omega (arith, earlier k e)
+latest-from-within p (r ∷ rs) i k before earlier e =
+    omega (arith, latest-from-within p rs (i + 1) k (cond (is-of p r) (Some i) before) (still (is-of p r)) e)
+  where
+    still : (own : Bool) (b : ℕ) → cond own (Some i) before ≡ Some b → b < i + 1
+    still true b found = let same : i ≡ b = cc in omega arith
+    still false b found = omega (arith, earlier b found)
+
+pub latest-within : (p : ℕ) (rs : List Record) (k : ℕ) → latest p rs ≡ Some k → k < length rs
+latest-within p rs k e = omega (arith, latest-from-within p rs 0 k None (λ b none. absurd (let z : _≡_ {A = ℕ} 0 1 = cc in omega arith)) e)
+
 -- a test of each element, and of each number below eight
 decides-every : {X : Type 0} (test : X → Bool) (xs : List X) → Decides (every test xs) (All (λ x. test x ≡ true) xs)
 decides-every test = decides-by-and test (λ x. test x ≡ true) (every test) (λ x. ((λ e. e), (λ e. e))) refl (λ _ _. refl)

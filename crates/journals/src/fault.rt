@@ -1,5 +1,6 @@
 // Why a call on journals was refused.
 ghost use mathlib.Core.Path.{_≡_};
+ghost use Rattle.journals.specs.declared.fault.JournalsRefusal.the-variants.{TornTape};
 ghost use Rattle.journals.specs.Refusals.{number-of, refused, refused-for};
 
 // Stands for a ledger where a fault has none.
@@ -41,6 +42,13 @@ impl JournalsFault {
         ensures { λ r. ⌜ r ≡ refused refusal ⌝ }
     {
         JournalsFault::of(NO_LEDGER, refusal)
+    }
+
+    // The refusal of a tape that is torn there.
+    pub(crate) fn torn(place: usize) -> JournalsFault
+        ensures { λ r. ⌜ r ≡ refused (TornTape place) ⌝ }
+    {
+        JournalsFault::of_none(JournalsRefusal::TornTape { place })
     }
 
     pub fn number(&self) -> u8

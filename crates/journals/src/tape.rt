@@ -7,7 +7,9 @@ ghost use Rattle.journals.specs.Records.{lawful, no-track, track-of};
 use crate::records::Record;
 use crate::records::Track;
 
+mod bytes;
 mod calls;
+pub use calls::TapeJournals;
 
 #[derive(Drop)]
 pub struct Tape {

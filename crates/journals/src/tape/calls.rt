@@ -1,10 +1,12 @@
 // How a tape is made, written and read.
-ghost use mathlib.Core.Bool.{true};
+ghost use mathlib.Core.Bool.{true, cond};
 ghost use mathlib.Core.List.{[], _∷_, _++_};
 ghost use mathlib.Core.Path.{_≡_};
 ghost use Prim.Native.Nat.{_<_};
+ghost use Rattle.journals.specs.Calls.{append-after, append-answer};
 ghost use Rattle.journals.specs.Records.{count-of, is-record};
 ghost use Rattle.journals.specs.Tape.{entries-of, records-of};
+ghost use Rattle.std.specs.Results.{isOk};
 use super::Tape;
 use crate::entry::Entry;
 use crate::fault::JournalsFault;
@@ -57,7 +59,11 @@ impl Tape {
 pub impl Journals for Tape as TapeJournals {
     ghost entries = { entries-of };
 
-    fn append(&mut self, ledger: u8, code: u8) -> Result<(), JournalsFault> {
+    fn append(&mut self, ledger: u8, code: u8) -> Result<(), JournalsFault>
+        ensures answer { λ r. ⌜ r ≡ append-answer (entries-of (now (self .entry))) ledger code ⌝ }
+        ensures after { λ _. ⌜ entries-of (now (self .exit)) ≡ append-after (entries-of (now (self .entry))) ledger code ⌝ }
+        ensures records { λ r. ⌜ records-of (now (self .exit)) ≡ cond (isOk r) (records-of (now (self .entry)) ++ (record { ledger = ledger; code = code } ∷ [])) (records-of (now (self .entry))) ⌝ }
+    {
         if ledger >= 8 {
             return Err(JournalsFault::of(ledger, JournalsRefusal::UnknownLedger));
         }

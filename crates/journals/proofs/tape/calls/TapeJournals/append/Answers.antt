@@ -1,5 +1,5 @@
 use Prim.Native.Nat.{_<_, _≤_}
-use mathlib.Core.Path.{ap, sym, _∙_}
+use mathlib.Core.Path.{refl, ap, sym, _∙_}
 use lib.ListN.{length}
 use native.Mathlib.Omega.{arith}
 use Rattle.std.specs.declared.result.Result.the-variants.{Err}
@@ -19,6 +19,7 @@ returns-then-self-ledger-ge8 c =
     record {
       answer = ap Err (c .of-then-self-ledger-ge8 .ensures) ∙ sym (full-answer (entries-of t) p below (c .args .code) known full);
       after = sym (full-after (entries-of t) p below (c .args .code) known full);
+      records = refl;
     }
 
 pub returns : need.returns
@@ -31,4 +32,5 @@ returns c =
     record {
       answer = sym (taken-answer (entries-of t) p below (c .args .code) known room);
       after = entries-push t (c .push .last .self) (record { ledger = p; code = c .args .code }) (c .push .ensures) ∙ sym (taken-after (entries-of t) p below (c .args .code) known room);
+      records = c .push .ensures;
     }
