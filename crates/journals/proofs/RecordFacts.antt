@@ -124,16 +124,16 @@ module _ (rs : List Record) (law : lawful rs ≡ true) where
 module _ (before : List Record) (r : Record) (after : List Record) (law : lawful (before ++ (r ∷ after)) ≡ true) where
   pub record-within : is-record r ≡ true
   record-within =
-    let here : getD (before ++ (r ∷ after)) (length before) r ≡ r = getD-at before r after r (length before) refl in
-    let long : length before < length (before ++ (r ∷ after)) = simp length-append (omega arith) in
-    rw here at (all-getD (λ x. is-record x ≡ true) (before ++ (r ∷ after)) (length before) r long (known (before ++ (r ∷ after)) law))
+      let here : getD (before ++ (r ∷ after)) (length before) r ≡ r = getD-at before r after r (length before) refl in
+      let long : length before < length (before ++ (r ∷ after)) = simp length-append (omega arith) in
+      rw here at (all-getD (λ x. is-record x ≡ true) (before ++ (r ∷ after)) (length before) r long (known (before ++ (r ∷ after)) law))
 
   pub no-ninth : count-of (r .ledger) before < 8
   no-ninth =
-    let p = r .ledger in
-    let all : count-of p (before ++ (r ∷ after)) ≡ count-of p before + count-of p (r ∷ after) = ap length (kept-by-append (is-of p) before (r ∷ after)) ∙ length-append _ _ in
-    let own : count-of p (r ∷ after) ≡ suc (count-of p after) = rw (eq-eqb p p refl) in
-    omega (arith, at-most-8 (before ++ (r ∷ after)) law p, all, own)
+      let p = r .ledger in
+      let all : count-of p (before ++ (r ∷ after)) ≡ count-of p before + count-of p (r ∷ after) = ap length (kept-by-append (is-of p) before (r ∷ after)) ∙ length-append _ _ in
+      let own : count-of p (r ∷ after) ≡ suc (count-of p after) = rw (eq-eqb p p refl) in
+      omega (arith, at-most-8 (before ++ (r ∷ after)) law p, all, own)
 
 -- what the search tells of the codes that are left
 module _ (p : ℕ) (rs : List Record) (start : ℕ) where

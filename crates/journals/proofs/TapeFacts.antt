@@ -5,9 +5,9 @@ use mathlib.Core.Logic.{_⊎_, inl, inr, _≢_}
 use mathlib.Core.Path.{_≡_, refl, ap, sym, _∙_, subst, fun-ext}
 use Prim.Native.Nat.{ℕ, _+_, _<_, _≤_}
 use lib.Dec.{eqb}
-use lib.ListN.{length, getD, set, take}
+use lib.ListN.{length, getD, set, take, drop}
 use native.Mathlib.Omega.{arith}
-use Rattle.std.proofs.shelf.Lists.{length-map, length-take-le, length-push, length-set, take-more-set, getD-set-same, getD-set-other}
+use Rattle.std.proofs.shelf.Lists.{length-map, length-take-le, length-push, take-more, take-more-set, take-append-drop, drop-more, getD-take, getD-set-same, getD-set-other}
 use Rattle.std.proofs.shelf.Tests.{and-parts, ltb-true, cases-eq, eq-eqb, ne-eqb}
 use Rattle.std.specs.declared.option.Option.the-variants.{Some, None}
 use Rattle.journals.specs.Calls.{with-entry}
@@ -17,7 +17,7 @@ use Rattle.journals.specs.Tape.{records-of, entries-of}
 use Rattle.journals.specs.declared.records.Record.{Record}
 use Rattle.journals.specs.declared.records.Track.{Track}
 use Rattle.journals.specs.declared.tape.Tape.{Tape}
-use Rattle.journals.proofs.RecordFacts.{lawful-push, at-most-64, codes-push, track-push}
+use Rattle.journals.proofs.RecordFacts.{lawful-push, at-most-64, codes-push, track-push, record-within, no-ninth}
 
 pub records-length : (t : Tape) → length (records-of t) ≡ t .len
 records-length t = length-take-le (t .len) (t .records) (omega arith)
@@ -63,3 +63,28 @@ module _ (t : Tape) (r : Record) (right : is-record r ≡ true) (room : count-of
 
   pub still-tracked : (p : ℕ) → p < 8 → getD (set (t .tracks) (r .ledger) (moved t r)) p no-track ≡ track-of p (take (t .len + 1) (set (t .records) (t .len) r))
   still-tracked p low = rw pushed (tracked-push p low)
+
+-- the record at a place, among those before and after it
+module _ (t : Tape) (i : ℕ) (d : Record) (low : i < t .len) where
+  here : getD (records-of t) i d ≡ getD (t .records) i d
+  here = getD-take (t .len) (t .records) i d low
+
+  long : i < length (records-of t)
+  long = omega (arith, records-length t)
+
+  pub more-here : take (i + 1) (records-of t) ≡ take i (records-of t) ++ (getD (t .records) i d ∷ [])
+  more-here = take-more (records-of t) i d long ∙ ap (λ r. take i (records-of t) ++ (r ∷ [])) here
+
+  law-here : lawful (take i (records-of t) ++ (getD (t .records) i d ∷ drop (i + 1) (records-of t))) ≡ true
+  law-here =
+      let around = ap (λ rs. take i (records-of t) ++ rs) (sym (drop-more (records-of t) i d long ∙ ap (λ r. r ∷ drop (i + 1) (records-of t)) here)) ∙ take-append-drop i (records-of t) in
+      ap lawful around ∙ t .kept
+
+  pub record-here : is-record (getD (t .records) i d) ≡ true
+  record-here = record-within (take i (records-of t)) (getD (t .records) i d) (drop (i + 1) (records-of t)) law-here
+
+  pub ledger-here : getD (t .records) i d .ledger < 8
+  ledger-here = ltb-true (getD (t .records) i d .ledger) 8 (and-parts (is-ledger (getD (t .records) i d .ledger)) (is-code (getD (t .records) i d .code)) record-here .0)
+
+  pub room-here : count-of (getD (t .records) i d .ledger) (take i (records-of t)) < 8
+  room-here = no-ninth (take i (records-of t)) (getD (t .records) i d) (drop (i + 1) (records-of t)) law-here

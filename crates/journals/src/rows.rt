@@ -5,6 +5,7 @@ ghost use lib.ListN.{length};
 use crate::entry::Entry;
 
 mod calls;
+
 pub use calls::RowsJournals;
 
 // What one ledger wrote: the first `len` of its places.

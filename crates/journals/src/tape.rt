@@ -9,6 +9,7 @@ use crate::records::Track;
 
 mod bytes;
 mod calls;
+
 pub use calls::TapeJournals;
 
 #[derive(Drop)]

@@ -2,14 +2,17 @@
 ghost use mathlib.Core.Bool.{cond};
 ghost use mathlib.Core.List.{[], _∷_, _++_};
 ghost use mathlib.Core.Path.{_≡_};
-ghost use Prim.Native.Nat.{_<_};
+ghost use Prim.Native.Nat.{_+_, _/_, _%_, _<_, _≤_};
+ghost use lib.ListN.{drop, length, take};
 ghost use Rattle.journals.specs.Bytes.{is-next, laid, read-tape, torn, trailer, write-after, write-answer};
 ghost use Rattle.journals.specs.Tape.{records-of, told};
 ghost use Rattle.std.specs.Vec.{made};
+ghost use Rattle.std.specs.declared.result.Result.the-variants.{Ok};
 use super::Tape;
 use super::calls::TapeJournals;
 use crate::fault::JournalsFault;
 use crate::fault::JournalsRefusal;
+use crate::records::Record;
 use crate::set::Journals;
 
 impl Tape {
@@ -47,11 +50,44 @@ impl Tape {
         let mut tape = Tape::new();
         let mut start = 0;
         while start < bytes.len() {
-            if !tape.read_record(bytes[start], bytes[start + 1], bytes[start + 2], bytes[start + 3]) {
+            if !tape.read_record(
+                bytes[start],
+                bytes[start + 1],
+                bytes[start + 2],
+                bytes[start + 3],
+            ) {
                 return Err(JournalsFault::torn(start));
             }
             start += 4;
         }
         Ok(tape)
     }
+
+    // Lays the tape at the buffer's front, and answers how many bytes it has.
+    pub fn write_to(&self, buffer: &mut [u8]) -> Result<usize, JournalsFault>
+        ensures answer { λ r. ⌜ r ≡ write-answer (records-of (now (self .entry))) (now (buffer .entry)) ⌝ }
+        ensures after { λ _. ⌜ now (buffer .exit) ≡ write-after (records-of (now (self .entry))) (now (buffer .entry)) ⌝ }
+        ensures again { λ r. ⌜ made r (λ n. read-tape (take n (now (buffer .exit))) ≡ Ok (records-of (now (self .entry)))) ⌝ }
+    {
+        if 4 * self.len > buffer.len() {
+            return Err(JournalsFault::of_none(JournalsRefusal::ShortList));
+        }
+        let mut before = Tape::new();
+        for i in 0..self.len {
+            let next = self.records[i];
+            lay_record(buffer, 4 * i, next, before.next_trailer(next.ledger));
+            before.push(next);
+        }
+        Ok(4 * self.len)
+    }
+}
+
+// Lays one record's bytes at their place.
+fn lay_record(buffer: &mut [u8], start: usize, next: Record, trailer: u16)
+    requires { ⌜ start + 4 ≤ length (now buffer) ⌝ }
+    ensures front { λ _. ⌜ take (start + 4) (now (buffer .exit)) ≡ take start (now (buffer .entry)) ++ (next .ledger ∷ next .code ∷ trailer % 256 ∷ trailer / 256 ∷ []) ⌝ }
+    ensures rest { λ _. ⌜ drop (start + 4) (now (buffer .exit)) ≡ drop (start + 4) (now (buffer .entry)) ⌝ }
+{
+    let [low, high] = trailer.to_le_bytes();
+    buffer[start..start + 4].copy_from_slice(&[next.ledger, next.code, low, high]);
 }

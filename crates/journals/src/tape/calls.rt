@@ -41,7 +41,7 @@ impl Tape {
     }
 
     // Every record comes in here: at most eight of each ledger, so that the 64 places suffice.
-    fn push(&mut self, new: Record)
+    pub(super) fn push(&mut self, new: Record)
         requires { ⌜ is-record new ≡ true ⌝ ∗ ⌜ count-of (new .ledger) (records-of (now self)) < 8 ⌝ }
         ensures { λ _. ⌜ records-of (now (self .exit)) ≡ records-of (now (self .entry)) ++ (new ∷ []) ⌝ }
     {

@@ -35,5 +35,5 @@ pub returns : need.returns
 returns c =
     let rs = records-of (c .loop-start .tape) in
     let all : read-tape (c .args .bytes .now) ≡ Ok rs =
-        read-whole (c .args .bytes .now) (omega arith) (omega arith) ∙ sym (c .loop-start .inv .0) ∙ ap (read-after rs) (drop-all (c .loop-start .start) (c .args .bytes .now) (c .loop-start-test .left)) in
+    read-whole (c .args .bytes .now) (omega arith) (omega arith) ∙ sym (c .loop-start .inv .0) ∙ ap (read-after rs) (drop-all (c .loop-start .start) (c .args .bytes .now) (c .loop-start-test .left)) in
     record { answer = sym (ap torn all); back = read-tape-lays _ _ all }
