@@ -1,0 +1,2 @@
+// How journals are printed: a ledger's entries as letters, and the verdict on a tape.
+pub mod letters;
