@@ -1,7 +1,7 @@
 // Why a call on journals was refused.
 ghost use mathlib.Core.Path.{_≡_};
 ghost use Rattle.journals.specs.declared.fault.JournalsRefusal.the-variants.{TornTape};
-ghost use Rattle.journals.specs.Refusals.{number-of, refused, refused-for};
+ghost use Rattle.journals.specs.Refusals.{number-of, place-of, refused, refused-for};
 
 // Stands for a ledger where a fault has none.
 pub const NO_LEDGER: u8 = 255;
@@ -69,5 +69,15 @@ impl JournalsFault {
         ensures { λ r. ⌜ r ≡ 74 ⌝ }
     {
         'J'
+    }
+
+    // Where a torn tape is torn.
+    pub fn place(&self) -> Option<usize>
+        ensures { λ r. ⌜ r ≡ place-of (now (self .entry) .refusal) ⌝ }
+    {
+        match self.refusal {
+            JournalsRefusal::TornTape { place } => Some(place),
+            _ => None,
+        }
     }
 }

@@ -30,7 +30,12 @@ fn count_of<J: Journals>(journals: &J, ledger: u8) -> usize
 }
 
 // Adds the letter of one entry.
-fn push_letter<J: Journals>(out: &mut String, journals: &J, ledger: u8, place: usize) -> Result<(), AllocError>
+fn push_letter<J: Journals>(
+    out: &mut String,
+    journals: &J,
+    ledger: u8,
+    place: usize,
+) -> Result<(), AllocError>
     requires { ⌜ place < length (entries (now journals) ledger) ⌝ }
     ensures { λ r. ⌜ made r (λ _. string-bytes (now (out .exit)) ≡ string-bytes (now (out .entry)) ++ (letter (getD (entries (now (journals .entry)) ledger) place 0) ∷ [])) ⌝ }
 {
@@ -44,7 +49,11 @@ fn push_letter<J: Journals>(out: &mut String, journals: &J, ledger: u8, place: u
 }
 
 // Adds the ledger's entries as letters, or `-` where it has none.
-pub fn push_letters<J: Journals>(out: &mut String, journals: &J, ledger: u8) -> Result<(), AllocError>
+pub fn push_letters<J: Journals>(
+    out: &mut String,
+    journals: &J,
+    ledger: u8,
+) -> Result<(), AllocError>
     ensures { λ r. ⌜ made r (λ _. string-bytes (now (out .exit)) ≡ string-bytes (now (out .entry)) ++ letters (entries (now (journals .entry)) ledger)) ⌝ }
 {
     let count = count_of(journals, ledger);

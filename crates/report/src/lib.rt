@@ -1,2 +1,3 @@
 // How journals are printed: a ledger's entries as letters, and the verdict on a tape.
 pub mod letters;
+pub mod verdict;

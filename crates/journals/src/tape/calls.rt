@@ -3,6 +3,7 @@ ghost use mathlib.Core.Bool.{true, cond};
 ghost use mathlib.Core.List.{[], _∷_, _++_};
 ghost use mathlib.Core.Path.{_≡_};
 ghost use Prim.Native.Nat.{_<_};
+ghost use lib.ListN.{length};
 ghost use Rattle.journals.specs.Calls.{append-after, append-answer};
 ghost use Rattle.journals.specs.Records.{count-of, is-record};
 ghost use Rattle.journals.specs.Tape.{entries-of, records-of};
@@ -31,6 +32,13 @@ impl Tape {
             len: 0,
             tracks: [track; 8],
         }
+    }
+
+    // How many records the tape has.
+    pub fn len(&self) -> usize
+        ensures { λ r. ⌜ r ≡ length (records-of (now (self .entry))) ⌝ }
+    {
+        self.len
     }
 
     // The records, the oldest first.
