@@ -3,6 +3,8 @@ ghost use mathlib.Core.Path.{_≡_};
 ghost use Prim.Native.Nat.{_≤_};
 ghost use lib.ListN.{length};
 use crate::entry::Entry;
+use crate::limits::ENTRIES;
+use crate::limits::LEDGERS;
 
 mod calls;
 
@@ -11,7 +13,7 @@ pub use calls::RowsJournals;
 // What one ledger wrote: the first `len` of its places.
 #[derive(Clone, Copy)]
 struct Row {
-    entries: [Entry; 8],
+    entries: [Entry; ENTRIES],
     len: usize,
     ghost whole: { length entries ≡ 8 },
     ghost within: { len ≤ 8 },
@@ -19,6 +21,6 @@ struct Row {
 
 #[derive(Drop)]
 pub struct Rows {
-    rows: [Row; 8],
+    rows: [Row; LEDGERS],
     ghost whole: { length rows ≡ 8 },
 }

@@ -4,6 +4,7 @@ ghost use mathlib.Core.Path.{_≡_};
 ghost use Prim.Native.Nat.{ℕ, _≤_, _<_};
 ghost use lib.ListN.{length, take, getD};
 ghost use Rattle.journals.specs.Records.{lawful, no-track, track-of};
+use crate::limits::LEDGERS;
 use crate::records::Record;
 use crate::records::Track;
 
@@ -12,13 +13,22 @@ mod calls;
 
 pub use calls::TapeJournals;
 
+// The most records: eight of each of eight ledgers.
+pub const RECORDS: usize = 64;
+
+// The bytes of one record.
+pub const RECORD_BYTES: usize = 4;
+
+// The most bytes that a tape has.
+pub const TAPE_BYTES: usize = 256;
+
 #[derive(Drop)]
 pub struct Tape {
     // The first `len` places hold the records, the oldest first.
-    records: [Record; 64],
+    records: [Record; RECORDS],
     len: usize,
     // What the records tell of each ledger, so that no call has to count them.
-    tracks: [Track; 8],
+    tracks: [Track; LEDGERS],
     ghost whole: { (length records ≡ 64) × (length tracks ≡ 8) },
     ghost within: { len ≤ 64 },
     ghost kept: { lawful (take len records) ≡ true },

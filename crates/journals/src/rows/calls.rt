@@ -10,6 +10,10 @@ use super::Rows;
 use crate::entry::Entry;
 use crate::fault::JournalsFault;
 use crate::fault::JournalsRefusal;
+use crate::limits::ENTRIES;
+use crate::limits::LEDGERS;
+use crate::limits::check_ledger;
+use crate::limits::known_entry;
 use crate::set::Journals;
 
 impl Row {
@@ -28,10 +32,12 @@ impl Rows {
         ensures { λ r. ⌜ entries-of r ≡ no-entries ⌝ }
     {
         let row = Row {
-            entries: [Entry::Begin; 8],
+            entries: [Entry::Begin; ENTRIES],
             len: 0,
         };
-        Rows { rows: [row; 8] }
+        Rows {
+            rows: [row; LEDGERS],
+        }
     }
 }
 
@@ -39,14 +45,10 @@ pub impl Journals for Rows as RowsJournals {
     ghost entries = { entries-of };
 
     fn append(&mut self, ledger: u8, code: u8) -> Result<(), JournalsFault> {
-        if ledger >= 8 {
-            return Err(JournalsFault::of(ledger, JournalsRefusal::UnknownLedger));
-        }
-        let Some(entry) = Entry::from_code(code) else {
-            return Err(JournalsFault::of(ledger, JournalsRefusal::UnknownCode));
-        };
+        check_ledger(ledger)?;
+        let entry = known_entry(ledger, code)?;
         let mut row = self.rows[ledger as usize];
-        if row.len >= 8 {
+        if row.len >= ENTRIES {
             return Err(JournalsFault::of(ledger, JournalsRefusal::JournalFull));
         }
         row.push(entry);
@@ -55,9 +57,7 @@ pub impl Journals for Rows as RowsJournals {
     }
 
     fn read(&self, ledger: u8, place: usize) -> Result<u8, JournalsFault> {
-        if ledger >= 8 {
-            return Err(JournalsFault::of(ledger, JournalsRefusal::UnknownLedger));
-        }
+        check_ledger(ledger)?;
         let row = self.rows[ledger as usize];
         if place >= row.len {
             return Err(JournalsFault::of(ledger, JournalsRefusal::NothingThere));
@@ -66,9 +66,7 @@ pub impl Journals for Rows as RowsJournals {
     }
 
     fn count(&self, ledger: u8) -> Result<usize, JournalsFault> {
-        if ledger >= 8 {
-            return Err(JournalsFault::of(ledger, JournalsRefusal::UnknownLedger));
-        }
+        check_ledger(ledger)?;
         Ok(self.rows[ledger as usize].len)
     }
 }

@@ -8,10 +8,13 @@ ghost use Rattle.journals.specs.Bytes.{is-next, laid, read-tape, torn, trailer
 ghost use Rattle.journals.specs.Tape.{records-of, told};
 ghost use Rattle.std.specs.Vec.{made};
 ghost use Rattle.std.specs.declared.result.Result.the-variants.{Ok};
+use super::RECORD_BYTES;
+use super::TAPE_BYTES;
 use super::Tape;
 use super::calls::TapeJournals;
 use crate::fault::JournalsFault;
 use crate::fault::JournalsRefusal;
+use crate::limits::LEDGERS;
 use crate::records::Record;
 use crate::set::Journals;
 
@@ -23,7 +26,7 @@ impl Tape {
     {
         let track = self.tracks[ledger as usize];
         match track.latest {
-            Some(earlier) => ((self.len - earlier) * 4) as u16,
+            Some(earlier) => ((self.len - earlier) * RECORD_BYTES) as u16,
             None => 0,
         }
     }
@@ -33,7 +36,9 @@ impl Tape {
         ensures answer { λ r. ⌜ r ≡ is-next (records-of (now (self .entry))) ledger code low high ⌝ }
         ensures after { λ r. ⌜ records-of (now (self .exit)) ≡ cond r (records-of (now (self .entry)) ++ (record { ledger = ledger; code = code } ∷ [])) (records-of (now (self .entry))) ⌝ }
     {
-        if ledger >= 8 || u16::from_le_bytes([low, high]) != self.next_trailer(ledger) {
+        if ledger as usize >= LEDGERS
+            || u16::from_le_bytes([low, high]) != self.next_trailer(ledger)
+        {
             return false;
         }
         self.append(ledger, code).is_ok()
@@ -44,7 +49,7 @@ impl Tape {
         ensures answer { λ r. ⌜ told r ≡ torn (read-tape (now (bytes .entry))) ⌝ }
         ensures back { λ r. ⌜ made r (λ tape. laid (records-of tape) ≡ now (bytes .entry)) ⌝ }
     {
-        if bytes.len() > 256 || bytes.len() % 4 != 0 {
+        if bytes.len() > TAPE_BYTES || bytes.len() % RECORD_BYTES != 0 {
             return Err(JournalsFault::torn(bytes.len()));
         }
         let mut tape = Tape::new();
@@ -58,7 +63,7 @@ impl Tape {
             ) {
                 return Err(JournalsFault::torn(start));
             }
-            start += 4;
+            start += RECORD_BYTES;
         }
         Ok(tape)
     }
@@ -69,16 +74,22 @@ impl Tape {
         ensures after { λ _. ⌜ now (buffer .exit) ≡ write-after (records-of (now (self .entry))) (now (buffer .entry)) ⌝ }
         ensures again { λ r. ⌜ made r (λ n. read-tape (take n (now (buffer .exit))) ≡ Ok (records-of (now (self .entry)))) ⌝ }
     {
-        if 4 * self.len > buffer.len() {
+        let length = RECORD_BYTES * self.len;
+        if length > buffer.len() {
             return Err(JournalsFault::of_none(JournalsRefusal::ShortList));
         }
         let mut before = Tape::new();
         for i in 0..self.len {
             let next = self.records[i];
-            lay_record(buffer, 4 * i, next, before.next_trailer(next.ledger));
+            lay_record(
+                buffer,
+                RECORD_BYTES * i,
+                next,
+                before.next_trailer(next.ledger),
+            );
             before.push(next);
         }
-        Ok(4 * self.len)
+        Ok(length)
     }
 }
 
@@ -89,5 +100,5 @@ fn lay_record(buffer: &mut [u8], start: usize, next: Record, trailer: u16)
     ensures rest { λ _. ⌜ drop (start + 4) (now (buffer .exit)) ≡ drop (start + 4) (now (buffer .entry)) ⌝ }
 {
     let [low, high] = trailer.to_le_bytes();
-    buffer[start..start + 4].copy_from_slice(&[next.ledger, next.code, low, high]);
+    buffer[start..start + RECORD_BYTES].copy_from_slice(&[next.ledger, next.code, low, high]);
 }

@@ -8,10 +8,14 @@ ghost use Rattle.journals.specs.Calls.{append-after, append-answer};
 ghost use Rattle.journals.specs.Records.{count-of, is-record};
 ghost use Rattle.journals.specs.Tape.{entries-of, records-of};
 ghost use Rattle.std.specs.Results.{isOk};
+use super::RECORDS;
 use super::Tape;
-use crate::entry::Entry;
 use crate::fault::JournalsFault;
 use crate::fault::JournalsRefusal;
+use crate::limits::ENTRIES;
+use crate::limits::LEDGERS;
+use crate::limits::check_ledger;
+use crate::limits::known_entry;
 use crate::records::Record;
 use crate::records::Track;
 use crate::records::code_at;
@@ -28,9 +32,9 @@ impl Tape {
             latest: None,
         };
         Tape {
-            records: [blank; 64],
+            records: [blank; RECORDS],
             len: 0,
-            tracks: [track; 8],
+            tracks: [track; LEDGERS],
         }
     }
 
@@ -38,7 +42,7 @@ impl Tape {
     pub fn len(&self) -> usize
         ensures { λ r. ⌜ r ≡ length (records-of (now (self .entry))) ⌝ }
     {
-        self.len
+        self.written().len()
     }
 
     // The records, the oldest first.
@@ -72,13 +76,9 @@ pub impl Journals for Tape as TapeJournals {
         ensures after { λ _. ⌜ entries-of (now (self .exit)) ≡ append-after (entries-of (now (self .entry))) ledger code ⌝ }
         ensures records { λ r. ⌜ records-of (now (self .exit)) ≡ cond (isOk r) (records-of (now (self .entry)) ++ (record { ledger = ledger; code = code } ∷ [])) (records-of (now (self .entry))) ⌝ }
     {
-        if ledger >= 8 {
-            return Err(JournalsFault::of(ledger, JournalsRefusal::UnknownLedger));
-        }
-        if Entry::from_code(code).is_none() {
-            return Err(JournalsFault::of(ledger, JournalsRefusal::UnknownCode));
-        }
-        if self.tracks[ledger as usize].count >= 8 {
+        check_ledger(ledger)?;
+        known_entry(ledger, code)?;
+        if self.tracks[ledger as usize].count >= ENTRIES {
             return Err(JournalsFault::of(ledger, JournalsRefusal::JournalFull));
         }
         self.push(Record { ledger, code });
@@ -86,9 +86,7 @@ pub impl Journals for Tape as TapeJournals {
     }
 
     fn read(&self, ledger: u8, place: usize) -> Result<u8, JournalsFault> {
-        if ledger >= 8 {
-            return Err(JournalsFault::of(ledger, JournalsRefusal::UnknownLedger));
-        }
+        check_ledger(ledger)?;
         match code_at(self.written(), ledger, place) {
             Some(code) => Ok(code),
             None => Err(JournalsFault::of(ledger, JournalsRefusal::NothingThere)),
@@ -96,9 +94,7 @@ pub impl Journals for Tape as TapeJournals {
     }
 
     fn count(&self, ledger: u8) -> Result<usize, JournalsFault> {
-        if ledger >= 8 {
-            return Err(JournalsFault::of(ledger, JournalsRefusal::UnknownLedger));
-        }
+        check_ledger(ledger)?;
         Ok(self.tracks[ledger as usize].count)
     }
 }

@@ -13,7 +13,7 @@ pub returns : need.returns
 returns c =
     let t = c .args .self .now in
     let same : c .args .low + c .args .high * 256 ≡ trailer (records-of t) (c .args .ledger) = cc in
-    let right = right-trailer (entries-of t) (records-of t) (c .args .ledger) (c .args .code) (c .args .low) (c .args .high) (length-map _ (λ (r : Record). r .code)) (c .if-ledger-ge8 .left) (omega arith) same in
+    let right = right-trailer (entries-of t) (records-of t) (c .args .ledger) (c .args .code) (c .args .low) (c .args .high) (length-map _ (λ (r : Record). r .code)) (c .if-ledger-ge-LEDGERS .left) (omega arith) same in
     record {
       answer = c .is-ok .ensures .value ∙ ap isOk (c .append .ensures .answer) ∙ right;
       after = rw (c .is-ok .ensures .value) (c .append .ensures .records);

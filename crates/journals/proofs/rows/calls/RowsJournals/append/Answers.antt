@@ -9,15 +9,15 @@ use Rattle.journals.proofs.CallFacts.{full-answer, full-after, taken-answer, t
 use Rattle.journals.proofs.RowFacts.{entries-row, entries-length, entries-set}
 use Rattle.journals.proofs.rows.calls.RowsJournals.append.Needs as need
 
-pub returns-then-row-ge8 : need.returns-then-row-ge8
-returns-then-row-ge8 c =
+pub returns-then-row-ge-ENTRIES : need.returns-then-row-ge-ENTRIES
+returns-then-row-ge-ENTRIES c =
     let j = c .args .self .now in
     let p = c .args .ledger in
-    let below = c .if-ledger-ge8 .left in
-    let known = c .in-Some .ensures tt .0 in
+    let below = c .in-Continue-check-ledger .ensures tt in
+    let known = c .in-Continue-entry .ensures tt .0 in
     let full : 8 ≤ length (entries-of j p) = omega (arith, entries-length j p (c .index-self-ledger .result) below) in
     record {
-      answer = ap Err (c .of-then-row-ge8 .ensures) ∙ sym (full-answer (entries-of j) p below (c .args .code) known full);
+      answer = ap Err (c .of .ensures) ∙ sym (full-answer (entries-of j) p below (c .args .code) known full);
       after = sym (full-after (entries-of j) p below (c .args .code) known full);
     }
 
@@ -25,11 +25,11 @@ pub returns : need.returns
 returns c =
     let j = c .args .self .now in
     let p = c .args .ledger in
-    let below = c .if-ledger-ge8 .left in
-    let known = c .in-Some .ensures tt .0 in
+    let below = c .in-Continue-check-ledger .ensures tt in
+    let known = c .in-Continue-entry .ensures tt .0 in
     let room : length (entries-of j p) < 8 = omega (arith, entries-length j p (c .index-self-ledger .result) below) in
     let row = entries-row j p (c .index-self-ledger .result) below in
-    let code = c .in-Some .ensures tt .1 in
+    let code = c .in-Continue-entry .ensures tt .1 in
     record {
       answer = sym (taken-answer (entries-of j) p below (c .args .code) known room);
       after = fun-ext (entries-set j p (c .push .last .self) below (c .args .code) (cc)) ∙ sym (taken-after (entries-of j) p below (c .args .code) known room);

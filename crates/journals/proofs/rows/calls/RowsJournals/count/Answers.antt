@@ -8,5 +8,5 @@ use Rattle.journals.proofs.rows.calls.RowsJournals.count.Needs as need
 pub returns : need.returns
 returns c =
     let j = c .args .self .now in
-    let below = c .if-ledger-ge8 .left in
+    let below = c .in-Continue-check-ledger .ensures tt in
     ap Ok (sym (entries-length j (c .args .ledger) (c .index-self-ledger .result) below)) ∙ sym (counted-answer (entries-of j) (c .args .ledger) below)

@@ -12,15 +12,15 @@ pub returns-then-place-row : need.returns-then-place-row
 returns-then-place-row c =
     let j = c .args .self .now in
     let p = c .args .ledger in
-    let below = c .if-ledger-ge8 .left in
+    let below = c .in-Continue-check-ledger .ensures tt in
     let past : length (entries-of j p) ≤ c .args .place = omega (arith, entries-length j p (c .index-self-ledger .result) below) in
-    ap Err (c .of-then-place-row .ensures) ∙ sym (missing-answer (entries-of j) p below (c .args .place) past)
+    ap Err (c .of .ensures) ∙ sym (missing-answer (entries-of j) p below (c .args .place) past)
 
 pub returns : need.returns
 returns c =
     let j = c .args .self .now in
     let p = c .args .ledger in
-    let below = c .if-ledger-ge8 .left in
+    let below = c .in-Continue-check-ledger .ensures tt in
     let within : c .args .place < length (entries-of j p) = omega (arith, entries-length j p (c .index-self-ledger .result) below) in
     ap Ok (c .code .ensures ∙ sym (entries-at j p (c .index-self-ledger .result) below (c .args .place) _ (c .if-place-row .left)))
     ∙ sym (there-answer (entries-of j) p below (c .args .place) within)

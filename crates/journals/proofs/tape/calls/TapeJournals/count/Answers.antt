@@ -8,5 +8,5 @@ use Rattle.journals.proofs.tape.calls.TapeJournals.count.Needs as need
 pub returns : need.returns
 returns c =
     let t = c .args .self .now in
-    let below = c .if-ledger-ge8 .left in
+    let below = c .in-Continue-check-ledger .ensures tt in
     ap Ok (sym (entries-length t (c .args .ledger) below)) ∙ sym (counted-answer (entries-of t) (c .args .ledger) below)

@@ -9,10 +9,10 @@ use Rattle.journals.proofs.tape.calls.TapeJournals.read.Needs as need
 pub returns-in-Some : need.returns-in-Some
 returns-in-Some c =
     let whole = ap (λ rs. nth (codes-of (c .args .ledger) rs) (c .args .place)) (c .written .ensures) in
-    sym (nth-answer (entries-of (c .args .self .now)) (c .args .ledger) (c .if-ledger-ge8 .left) (c .args .place) (c .in-Some .code) (sym whole ∙ sym (c .in-Some .ensures tt)))
+    sym (nth-answer (entries-of (c .args .self .now)) (c .args .ledger) (c .in-Continue-check-ledger .ensures tt) (c .args .place) (c .in-Some .code) (sym whole ∙ sym (c .in-Some .ensures tt)))
 
 pub returns-in-None : need.returns-in-None
 returns-in-None c =
     let whole = ap (λ rs. nth (codes-of (c .args .ledger) rs) (c .args .place)) (c .written .ensures) in
-    ap Err (c .of-in-None .ensures)
-    ∙ sym (no-nth-answer (entries-of (c .args .self .now)) (c .args .ledger) (c .if-ledger-ge8 .left) (c .args .place) (sym whole ∙ sym (c .in-None .ensures tt)))
+    ap Err (c .of .ensures)
+    ∙ sym (no-nth-answer (entries-of (c .args .self .now)) (c .args .ledger) (c .in-Continue-check-ledger .ensures tt) (c .args .place) (sym whole ∙ sym (c .in-None .ensures tt)))
