@@ -4,7 +4,7 @@ ghost use mathlib.Core.Path.{_≡_};
 ghost use Rattle.journals.specs.Codes.{code-of, is-code, decides};
 ghost use Rattle.std.specs.Options.{Cases};
 
-#[derive(Clone, Copy, PartialEq, Eq, Debug)]
+#[derive(Clone, Copy)]
 pub enum Entry {
     Begin = 1,
     ReadyYes = 2,

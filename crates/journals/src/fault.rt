@@ -6,7 +6,7 @@ ghost use Rattle.journals.specs.Refusals.{number-of, place-of, refused, refuse
 // Stands for a ledger where a fault has none.
 pub const NO_LEDGER: u8 = 255;
 
-#[derive(Clone, Copy, PartialEq, Eq, Debug)]
+#[derive(Clone, Copy, Debug)]
 pub enum JournalsRefusal {
     UnknownLedger,
     NothingThere,
@@ -17,7 +17,7 @@ pub enum JournalsRefusal {
     TornTape { place: usize },
 }
 
-#[derive(Clone, Copy, PartialEq, Eq, Debug)]
+#[derive(Clone, Copy, Debug)]
 pub struct JournalsFault {
     pub refusal: JournalsRefusal,
     // The ledgers as called.
@@ -27,7 +27,7 @@ pub struct JournalsFault {
 
 impl JournalsFault {
     // The refusal of a call for one ledger.
-    pub(crate) fn of(ledger: u8, refusal: JournalsRefusal) -> JournalsFault
+    pub fn of(ledger: u8, refusal: JournalsRefusal) -> JournalsFault
         ensures { λ r. ⌜ r ≡ refused-for ledger refusal ⌝ }
     {
         JournalsFault {
@@ -38,14 +38,14 @@ impl JournalsFault {
     }
 
     // The refusal of a call that names no ledger.
-    pub(crate) fn of_none(refusal: JournalsRefusal) -> JournalsFault
+    pub fn of_none(refusal: JournalsRefusal) -> JournalsFault
         ensures { λ r. ⌜ r ≡ refused refusal ⌝ }
     {
         JournalsFault::of(NO_LEDGER, refusal)
     }
 
     // The refusal of a tape that is torn there.
-    pub(crate) fn torn(place: usize) -> JournalsFault
+    pub fn torn(place: usize) -> JournalsFault
         ensures { λ r. ⌜ r ≡ refused (TornTape place) ⌝ }
     {
         JournalsFault::of_none(JournalsRefusal::TornTape { place })

@@ -1,8 +1,6 @@
-// What the ledgers wrote: one journal for each ledger, and two sets of journals that keep it.
+// What the ledgers wrote: what a set of journals means, and the rows, a set that keeps it.
 pub mod entry;
 pub mod fault;
 pub mod limits;
-mod records;
 pub mod rows;
 pub mod set;
-pub mod tape;

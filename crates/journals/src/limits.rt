@@ -17,7 +17,7 @@ pub const LEDGERS: usize = 8;
 pub const ENTRIES: usize = 8;
 
 // Refuses a ledger that there is not.
-pub(crate) fn check_ledger(ledger: u8) -> Result<(), JournalsFault>
+pub fn check_ledger(ledger: u8) -> Result<(), JournalsFault>
     ensures { λ r. ⌜ Cases r (λ _. ledger < 8) (λ fault. (8 ≤ ledger) × (fault ≡ refused-for ledger UnknownLedger)) ⌝ }
 {
     if ledger as usize >= LEDGERS {
@@ -27,7 +27,7 @@ pub(crate) fn check_ledger(ledger: u8) -> Result<(), JournalsFault>
 }
 
 // The entry with this code, if there is one.
-pub(crate) fn known_entry(ledger: u8, code: u8) -> Result<Entry, JournalsFault>
+pub fn known_entry(ledger: u8, code: u8) -> Result<Entry, JournalsFault>
     ensures { λ r. ⌜ Cases r (λ entry. (is-code code ≡ true) × (code-of entry ≡ code)) (λ fault. (is-code code ≡ false) × (fault ≡ refused-for ledger UnknownCode)) ⌝ }
 {
     match Entry::from_code(code) {

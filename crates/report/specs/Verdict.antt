@@ -8,12 +8,12 @@ use Rattle.std.specs.declared.option.Option.{Option}
 use Rattle.std.specs.declared.option.Option.the-variants.{Some, None}
 use Rattle.std.specs.declared.result.Result.{Result}
 use Rattle.std.specs.declared.result.Result.the-variants.{Ok, Err}
-use Rattle.journals.specs.Bytes.{read-tape, torn}
+use Rattle.tape.specs.Bytes.{read-tape, torn}
 use Rattle.journals.specs.Calls.{Entries}
-use Rattle.journals.specs.Records.{codes-of}
+use Rattle.tape.specs.Records.{codes-of}
 use Rattle.journals.specs.Refusals.{number-of, place-of}
 use Rattle.journals.specs.declared.fault.JournalsFault.{JournalsFault}
-use Rattle.journals.specs.declared.records.Record.{Record}
+use Rattle.tape.specs.declared.records.Record.{Record}
 use Rattle.report.specs.Letters.{letters}
 
 -- `L`, the ledger, its entries

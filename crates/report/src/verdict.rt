@@ -3,17 +3,17 @@ ghost use mathlib.Core.List.{_++_};
 ghost use mathlib.Core.Path.{_≡_};
 ghost use Prim.Native.Nat.{_<_};
 ghost use lib.ListN.{length};
-ghost use Rattle.journals.specs.Tape.{entries-of, records-of};
+ghost use Rattle.tape.specs.Tape.{entries-of, records-of};
 ghost use Rattle.report.specs.Verdict.{fault-line, ledger-line, ledger-lines, total-line, verdict};
 ghost use Rattle.std.specs.Of.String.{string-bytes};
 ghost use Rattle.std.specs.Vec.{made};
 use crate::letters::push_letters;
 use journals::fault::JournalsFault;
 use journals::set::Journals;
-use journals::tape::Tape;
-use journals::tape::TapeJournals;
 use std::alloc::AllocError;
 use std::alloc::Global;
+use tape::Tape;
+use tape::TapeJournals;
 
 // The text that tells what is on a tape, or where it is torn.
 pub fn tape_verdict(heap: Global, bytes: &[u8]) -> Result<String, AllocError>

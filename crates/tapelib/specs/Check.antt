@@ -3,7 +3,7 @@ use mathlib.Core.List.{List}
 use Prim.Native.Nat.{ℕ}
 use Rattle.std.specs.declared.result.Result.{Result}
 use Rattle.std.specs.declared.result.Result.the-variants.{Ok, Err}
-use Rattle.journals.specs.declared.records.Record.{Record}
+use Rattle.tape.specs.declared.records.Record.{Record}
 
 -- the place of the tear; a whole tape leaves the number as it was
 abbrev pub place-after : Result (List Record) ℕ → ℕ → ℕ

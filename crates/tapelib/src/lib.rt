@@ -1,9 +1,9 @@
 // The check of a tape, exported for programs in other languages.
 ghost use mathlib.Core.Path.{_≡_};
-ghost use Rattle.journals.specs.Bytes.{read-tape};
+ghost use Rattle.tape.specs.Bytes.{read-tape};
 ghost use Rattle.std.specs.Results.{isOk};
 ghost use Rattle.tapelib.specs.Check.{place-after};
-use journals::tape::Tape;
+use tape::Tape;
 
 // Whether the tape is whole; where it is torn, `place` is set to where.
 #[unsafe(no_mangle)]

@@ -5,9 +5,9 @@ use journals::fault::JournalsFaultDebug;
 use journals::rows::Rows;
 use journals::rows::RowsJournals;
 use journals::set::Journals;
-use journals::tape::Tape;
-use journals::tape::TapeJournals;
 use std::test::*;
+use tape::Tape;
+use tape::TapeJournals;
 
 // The answer as a number: 0, or the refusal's.
 fn number(answer: Result<(), JournalsFault>) -> u8 {

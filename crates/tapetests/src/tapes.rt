@@ -1,8 +1,8 @@
 // Tapes that are whole, and tapes that are torn.
 use journals::fault::JournalsFaultDebug;
-use journals::tape::Tape;
 use report::verdict::tape_verdict;
 use std::test::*;
+use tape::Tape;
 
 const SAMPLE: [u8; 12] = [0, 1, 0, 0, 1, 2, 0, 0, 0, 4, 8, 0];
 

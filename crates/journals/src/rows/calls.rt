@@ -2,6 +2,7 @@
 ghost use mathlib.Core.List.{[], _∷_, _++_};
 ghost use mathlib.Core.Path.{_≡_};
 ghost use Prim.Native.Nat.{_<_};
+ghost use lib.Dec.{leb};
 ghost use Rattle.journals.specs.Calls.{no-entries};
 ghost use Rattle.journals.specs.Codes.{code-of};
 ghost use Rattle.journals.specs.Rows.{codes, entries-of};
@@ -17,6 +18,13 @@ use crate::limits::known_entry;
 use crate::set::Journals;
 
 impl Row {
+    // Whether the ledger may write no more.
+    fn is_full(&self) -> bool
+        ensures { λ r. ⌜ r ≡ leb 8 (now (self .entry) .len) ⌝ }
+    {
+        self.len >= ENTRIES
+    }
+
     fn push(&mut self, entry: Entry)
         requires { ⌜ now self .len < 8 ⌝ }
         ensures { λ _. ⌜ codes (now (self .exit)) ≡ codes (now (self .entry)) ++ (code-of entry ∷ []) ⌝ }
@@ -48,7 +56,7 @@ pub impl Journals for Rows as RowsJournals {
         check_ledger(ledger)?;
         let entry = known_entry(ledger, code)?;
         let mut row = self.rows[ledger as usize];
-        if row.len >= ENTRIES {
+        if row.is_full() {
             return Err(JournalsFault::of(ledger, JournalsRefusal::JournalFull));
         }
         row.push(entry);

@@ -7,11 +7,11 @@ use Rattle.std.specs.Options.{valueOr}
 use Rattle.std.specs.Results.{isOk}
 use Rattle.std.specs.declared.result.Result.{Result}
 use Rattle.std.specs.declared.result.Result.the-variants.{Ok, Err}
-use Rattle.journals.specs.Bytes.{read-tape, torn}
+use Rattle.tape.specs.Bytes.{read-tape, torn}
 use Rattle.journals.specs.Refusals.{place-of, refused}
 use Rattle.journals.specs.declared.fault.JournalsFault.{JournalsFault}
 use Rattle.journals.specs.declared.fault.JournalsRefusal.the-variants.{TornTape}
-use Rattle.journals.specs.declared.records.Record.{Record}
+use Rattle.tape.specs.declared.records.Record.{Record}
 use Rattle.tapelib.specs.Check.{place-after}
 use Rattle.tapelib.proofs.tape_is_whole.Needs as need
 

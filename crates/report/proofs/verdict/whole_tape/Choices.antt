@@ -1,6 +1,6 @@
 use mathlib.Core.Path.{_≡_}
 use Rattle.std.specs.Of.String.{string-bytes}
-use Rattle.journals.specs.Tape.{entries-of}
+use Rattle.tape.specs.Tape.{entries-of}
 use Rattle.report.specs.Verdict.{ledger-lines}
 use Rattle.report.proofs.verdict.whole_tape.Given as given
 
