@@ -1,3 +1,2 @@
-pub mod CallFacts
 pub mod CodeFacts
 pub mod RowFacts

@@ -2,7 +2,7 @@
 use mathlib.Core.Bool.{Bool, true, false, cond, _&&_}
 use mathlib.Core.List.{List, [], _∷_, _++_, append-assoc}
 use mathlib.Core.Path.{_≡_, refl, ap, sym, _∙_}
-use Prim.Native.Nat.{ℕ, suc, _+_, _*_, _/_, _%_, _<_, _≤_}
+use Prim.Native.Nat.{ℕ, _+_, _*_, _/_, _%_, _<_, _≤_}
 use lib.Dec.{eqb, leb, ltb}
 use lib.ListN.{length, getD, drop}
 use native.Mathlib.Nat.{add-assoc, mul-suc}
@@ -14,7 +14,7 @@ use Rattle.std.specs.declared.result.Result.the-variants.{Ok, Err}
 use Rattle.tape.specs.Bytes.{trailer, record-bytes, laid-after, laid, is-next, read-after, read-tape, whole-length}
 use Rattle.journals.specs.Calls.{Entries, append-answer}
 use Rattle.journals.specs.Codes.{is-code, is-ledger}
-use Rattle.tape.specs.Records.{count-of, is-record, lawful}
+use Rattle.tape.specs.Records.{count-of, lawful}
 use Rattle.tape.specs.declared.records.Record.{Record}
 use Rattle.tape.proofs.RecordFacts.{at-most-64, record-within, no-ninth}
 

@@ -1,15 +1,15 @@
 -- What lists of records tell, when one more is written, and what a lawful list keeps to.
-use mathlib.Core.Bool.{Bool, true, false, cond, _&&_}
+use mathlib.Core.Bool.{Bool, true, false, cond}
 use mathlib.Core.List.{List, [], _∷_, _++_, map}
 use mathlib.Core.Logic.{⊎-elim}
 use mathlib.Core.Path.{_≡_, refl, ap, sym, _∙_}
 use Prim.Native.Nat.{ℕ, zero, suc, _+_, _-_, _<_, _≤_}
-use lib.Dec.{eqb, leb, ltb}
+use lib.Dec.{leb}
 use lib.ListN.{length, getD, drop}
 use native.Mathlib.Nat.{add-zero, zero-add}
 use native.Mathlib.Omega.{arith}
 use Rattle.std.proofs.shelf.Elements.{kept-by-append, all-getD, all-push, all-kept-by, all-map, all-weaker}
-use Rattle.std.proofs.shelf.Lists.{length-append, map-append, append-nil, getD-at}
+use Rattle.std.proofs.shelf.Lists.{length-append, length-map, map-append, append-nil, getD-at}
 use Rattle.std.proofs.shelf.Tests.{and-parts, and-from, leb-true, le-leb, eq-eqb, cases-lt}
 use Rattle.std.proofs.shelf.Ways.{tells, decides-by-and, decides-below-and}
 use Rattle.std.specs.Orderings.{Decides}
@@ -23,19 +23,18 @@ use Rattle.owned.specs.Search.{next-of}
 use Rattle.journals.specs.Codes.{is-code, is-ledger}
 use Rattle.tape.specs.Records.{is-of, codes-of, count-of, latest-from, latest, is-record, every, every-below, lawful, track-of}
 use Rattle.tape.specs.declared.records.Record.{Record}
-use Rattle.tape.specs.declared.records.Track.{Track}
 
 module _ (p : ℕ) (rs : List Record) (r : Record) where
   kept-push : kept-by (is-of p) (rs ++ (r ∷ [])) ≡ kept-by (is-of p) rs ++ cond (is-of p r) (r ∷ []) []
   kept-push = kept-by-append (is-of p) rs (r ∷ [])
 
-  pub count-push : count-of p (rs ++ (r ∷ [])) ≡ cond (is-of p r) (count-of p rs + 1) (count-of p rs)
-  count-push = ap length kept-push ∙ length-append _ _ ∙ elim (is-of p r) as (λ b. count-of p rs + length (cond b (r ∷ []) []) ≡ cond b (count-of p rs + 1) (count-of p rs)) [ true ↦ refl | false ↦ add-zero _ ]
-
   pub codes-push : codes-of p (rs ++ (r ∷ [])) ≡ cond (is-of p r) (codes-of p rs ++ (r .code ∷ [])) (codes-of p rs)
   codes-push =
       ap (map (λ (x : Record). x .code)) kept-push ∙ map-append (λ (x : Record). x .code) (kept-by (is-of p) rs) (cond (is-of p r) (r ∷ []) [])
       ∙ elim (is-of p r) as (λ b. codes-of p rs ++ map (λ x. x .code) (cond b (r ∷ []) []) ≡ cond b (codes-of p rs ++ (r .code ∷ [])) (codes-of p rs)) [ true ↦ refl | false ↦ append-nil _ ]
+
+  pub count-push : count-of p (rs ++ (r ∷ [])) ≡ cond (is-of p r) (count-of p rs + 1) (count-of p rs)
+  count-push = ap length codes-push ∙ elim (is-of p r) as (λ b. length (cond b (codes-of p rs ++ (r .code ∷ [])) (codes-of p rs)) ≡ cond b (count-of p rs + 1) (count-of p rs)) [ true ↦ length-append _ _ | false ↦ refl ]
 
 latest-from-push : (p : ℕ) (rs : List Record) (r : Record) (i : ℕ) (before : Option ℕ) → latest-from i p (rs ++ (r ∷ [])) before ≡ cond (is-of p r) (Some (i + length rs)) (latest-from i p rs before)
 latest-from-push p [] r i before = ap (λ n. cond (is-of p r) (Some n) before) (sym (add-zero i))
@@ -106,14 +105,17 @@ module _ (rs : List Record) (law : lawful rs ≡ true) where
       none-kept (x ∷ xs) h = rw (h .0) (none-kept xs (h .1))
 
   pub at-most-8 : (p : ℕ) → count-of p rs ≤ 8
-  at-most-8 p = ⊎-elim (few p) (λ past. omega (arith, ap length (none-past p past))) (cases-lt p 8)
+  at-most-8 p = ⊎-elim (few p) (λ past. omega (arith, ap (λ ks. length (map (λ (r : Record). r .code) ks)) (none-past p past))) (cases-lt p 8)
 
   -- eight ledgers with at most eight records each
   pub at-most-64 : length rs ≤ 64
   at-most-64 =
       crowd (λ r p. is-of p r) ledgers 8 rs (all-weaker (λ r. is-record r ≡ true) (λ r. owned-by (λ x p. is-of p x) ledgers r ≡ true) (λ r e. some-ledger r (and-parts (is-ledger (r .ledger)) (is-code (r .code)) e .0)) rs known)
-      (few 0 (omega arith), (few 1 (omega arith), (few 2 (omega arith), (few 3 (omega arith), (few 4 (omega arith), (few 5 (omega arith), (few 6 (omega arith), (few 7 (omega arith), tt))))))))
+      (kept-few 0 (omega arith), (kept-few 1 (omega arith), (kept-few 2 (omega arith), (kept-few 3 (omega arith), (kept-few 4 (omega arith), (kept-few 5 (omega arith), (kept-few 6 (omega arith), (kept-few 7 (omega arith), tt))))))))
     where
+      kept-few : (p : ℕ) → p < 8 → length (kept-by (is-of p) rs) ≤ 8
+      kept-few p below = rw length-map at (few p below)
+
       ledgers : List ℕ
       ledgers = 0 ∷ 1 ∷ 2 ∷ 3 ∷ 4 ∷ 5 ∷ 6 ∷ 7 ∷ []
 
@@ -131,7 +133,7 @@ module _ (before : List Record) (r : Record) (after : List Record) (law : lawful
   pub no-ninth : count-of (r .ledger) before < 8
   no-ninth =
       let p = r .ledger in
-      let all : count-of p (before ++ (r ∷ after)) ≡ count-of p before + count-of p (r ∷ after) = ap length (kept-by-append (is-of p) before (r ∷ after)) ∙ length-append _ _ in
+      let all : count-of p (before ++ (r ∷ after)) ≡ count-of p before + count-of p (r ∷ after) = ap (λ ks. length (map (λ (x : Record). x .code) ks)) (kept-by-append (is-of p) before (r ∷ after)) ∙ simp (map-append, length-append) in
       let own : count-of p (r ∷ after) ≡ suc (count-of p after) = rw (eq-eqb p p refl) in
       omega (arith, at-most-8 (before ++ (r ∷ after)) law p, all, own)
 

@@ -1,16 +1,16 @@
 -- What a tape keeps, and how one record more is kept.
-use mathlib.Core.Bool.{true, false, cond}
+use mathlib.Core.Bool.{true, cond}
 use mathlib.Core.List.{List, [], _∷_, _++_}
-use mathlib.Core.Logic.{_⊎_, inl, inr, _≢_}
+use mathlib.Core.Logic.{inl, inr, _≢_}
 use mathlib.Core.Path.{_≡_, refl, ap, sym, _∙_, subst, fun-ext}
-use Prim.Native.Nat.{ℕ, _+_, _<_, _≤_}
+use Prim.Native.Nat.{ℕ, _+_, _<_}
 use lib.Dec.{eqb}
 use lib.ListN.{length, getD, set, take, drop}
 use native.Mathlib.Omega.{arith}
-use Rattle.std.proofs.shelf.Lists.{length-map, length-take-le, length-push, take-more, take-more-set, take-append-drop, drop-more, getD-take, getD-set-same, getD-set-other}
+use Rattle.std.proofs.shelf.Lists.{length-take-le, length-push, take-more, take-more-set, take-append-drop, drop-more, getD-take, getD-set-same, getD-set-other}
 use Rattle.std.proofs.shelf.Tests.{and-parts, ltb-true, cases-eq, eq-eqb, ne-eqb}
-use Rattle.std.specs.declared.option.Option.the-variants.{Some, None}
-use Rattle.journals.specs.Calls.{with-entry}
+use Rattle.std.specs.declared.option.Option.the-variants.{Some}
+use Rattle.journals.specs.Calls.{Entries, with-entry}
 use Rattle.journals.specs.Codes.{is-code, is-ledger}
 use Rattle.tape.specs.Records.{codes-of, count-of, is-record, lawful, no-track, track-of}
 use Rattle.tape.specs.Tape.{records-of, entries-of}
@@ -23,11 +23,17 @@ pub records-length : (t : Tape) → length (records-of t) ≡ t .len
 records-length t = length-take-le (t .len) (t .records) (omega arith)
 
 pub entries-length : (t : Tape) (p : ℕ) → p < 8 → length (entries-of t p) ≡ getD (t .tracks) p no-track .count
-entries-length t p below = length-map _ (λ (r : Record). r .code) ∙ sym (ap (λ (k : Track). k .count) (t .tracked p below))
+entries-length t p below = sym (ap (λ (k : Track). k .count) (t .tracked p below))
+
+own-list : (E : Entries) (p q code : ℕ) → cond (eqb p q) (E q ++ (code ∷ [])) (E q) ≡ with-entry E p code q
+own-list E p q code = elim (cases-eq p q) [
+  | inl same ↦ ap (λ x. cond (eqb p q) (E x ++ (code ∷ [])) (E q)) (sym same)
+  | inr other ↦ rw (ne-eqb p q other)
+]
 
 -- one record more is one code more of its ledger
-pub entries-push : (t u : Tape) (r : Record) → records-of u ≡ records-of t ++ (r ∷ []) → entries-of u ≡ with-entry (entries-of t) (r .ledger) (r .code)
-entries-push t u r more = fun-ext (λ p. ap (codes-of p) more ∙ codes-push p (records-of t) r)
+pub entries-push : (rs more : List Record) (r : Record) → more ≡ rs ++ (r ∷ []) → (λ p. codes-of p more) ≡ with-entry (λ p. codes-of p rs) (r .ledger) (r .code)
+entries-push rs more r e = fun-ext (λ p. ap (codes-of p) e ∙ codes-push p rs r ∙ own-list (λ q. codes-of q rs) (r .ledger) p (r .code))
 
 -- what the ledger's track becomes
 abbrev moved : Tape → Record → Track

@@ -19,7 +19,7 @@ abbrev pub codes-of : ℕ → List Record → List ℕ
 codes-of p rs = map (λ r. r .code) (kept-by (is-of p) rs)
 
 abbrev pub count-of : ℕ → List Record → ℕ
-count-of p rs = length (kept-by (is-of p) rs)
+count-of p rs = length (codes-of p rs)
 
 -- the number of p's latest record, where the list's first has the number i, or what was found before
 abbrev pub latest-from : ℕ → ℕ → List Record → Option ℕ → Option ℕ

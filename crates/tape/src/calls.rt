@@ -4,8 +4,8 @@ ghost use mathlib.Core.List.{[], _∷_, _++_};
 ghost use mathlib.Core.Path.{_≡_};
 ghost use Prim.Native.Nat.{_<_};
 ghost use lib.ListN.{length};
-ghost use Rattle.journals.specs.Calls.{append-after, append-answer};
-ghost use Rattle.tape.specs.Records.{count-of, is-record};
+ghost use Rattle.journals.specs.Calls.{append-after, append-answer, with-entry};
+ghost use Rattle.tape.specs.Records.{is-record};
 ghost use Rattle.tape.specs.Tape.{entries-of, records-of};
 ghost use Rattle.std.specs.Results.{isOk};
 use crate::RECORDS;
@@ -15,6 +15,7 @@ use crate::records::Track;
 use crate::records::code_at;
 use journals::fault::JournalsFault;
 use journals::fault::JournalsRefusal;
+use journals::limits::ENTRIES;
 use journals::limits::LEDGERS;
 use journals::limits::check_ledger;
 use journals::limits::known_entry;
@@ -51,10 +52,18 @@ impl Tape {
         &self.records[0..self.len]
     }
 
+    fn count_of(&self, ledger: u8) -> usize
+        requires { ⌜ ledger < 8 ⌝ }
+        ensures { λ r. ⌜ r ≡ length (entries-of (now (self .entry)) ledger) ⌝ }
+    {
+        self.tracks[ledger as usize].count
+    }
+
     // Every record comes in here: at most eight of each ledger, so that the 64 places suffice.
     pub(super) fn push(&mut self, new: Record)
-        requires { ⌜ is-record new ≡ true ⌝ ∗ ⌜ count-of (new .ledger) (records-of (now self)) < 8 ⌝ }
-        ensures { λ _. ⌜ records-of (now (self .exit)) ≡ records-of (now (self .entry)) ++ (new ∷ []) ⌝ }
+        requires { ⌜ is-record new ≡ true ⌝ ∗ ⌜ length (entries-of (now self) (new .ledger)) < 8 ⌝ }
+        ensures records { λ _. ⌜ records-of (now (self .exit)) ≡ records-of (now (self .entry)) ++ (new ∷ []) ⌝ }
+        ensures entries { λ _. ⌜ entries-of (now (self .exit)) ≡ with-entry (entries-of (now (self .entry))) (new .ledger) (new .code) ⌝ }
     {
         let ledger = new.ledger as usize;
         let track = Track {
@@ -77,7 +86,7 @@ pub impl Journals for Tape as TapeJournals {
     {
         check_ledger(ledger)?;
         known_entry(ledger, code)?;
-        if self.tracks[ledger as usize].is_full() {
+        if self.count_of(ledger) >= ENTRIES {
             return Err(JournalsFault::of(ledger, JournalsRefusal::JournalFull));
         }
         self.push(Record { ledger, code });
@@ -86,14 +95,12 @@ pub impl Journals for Tape as TapeJournals {
 
     fn read(&self, ledger: u8, place: usize) -> Result<u8, JournalsFault> {
         check_ledger(ledger)?;
-        match code_at(self.written(), ledger, place) {
-            Some(code) => Ok(code),
-            None => Err(JournalsFault::of(ledger, JournalsRefusal::NothingThere)),
-        }
+        let code = code_at(self.written(), ledger, place);
+        code.ok_or(JournalsFault::of(ledger, JournalsRefusal::NothingThere))
     }
 
     fn count(&self, ledger: u8) -> Result<usize, JournalsFault> {
         check_ledger(ledger)?;
-        Ok(self.tracks[ledger as usize].count)
+        Ok(self.count_of(ledger))
     }
 }

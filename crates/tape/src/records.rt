@@ -1,9 +1,8 @@
 // Records of what the ledgers wrote, and what they tell of one ledger.
 ghost use mathlib.Core.Path.{_≡_};
-ghost use lib.Dec.{eqb, leb};
+ghost use lib.Dec.{eqb};
 ghost use Rattle.tape.specs.Records.{codes-of};
 ghost use Rattle.std.specs.shelf.Maps.{nth};
-use journals::limits::ENTRIES;
 use owned::Owned;
 use owned::next_of;
 
@@ -30,15 +29,6 @@ pub struct Track {
     pub count: usize,
     // The number of its latest record, counted from 0.
     pub latest: Option<usize>,
-}
-
-impl Track {
-    // Whether the ledger may write no more.
-    pub fn is_full(&self) -> bool
-        ensures { λ r. ⌜ r ≡ leb 8 (now (self .entry) .count) ⌝ }
-    {
-        self.count >= ENTRIES
-    }
 }
 
 // The code at a place of the ledger's list.

@@ -2,10 +2,11 @@
 ghost use mathlib.Core.List.{[], _∷_, _++_};
 ghost use mathlib.Core.Path.{_≡_};
 ghost use Prim.Native.Nat.{_<_};
-ghost use lib.Dec.{leb};
-ghost use Rattle.journals.specs.Calls.{no-entries};
+ghost use lib.ListN.{length};
+ghost use Rattle.journals.specs.Calls.{no-entries, with-list};
 ghost use Rattle.journals.specs.Codes.{code-of};
 ghost use Rattle.journals.specs.Rows.{codes, entries-of};
+ghost use Rattle.std.specs.shelf.Maps.{nth};
 use super::Row;
 use super::Rows;
 use crate::entry::Entry;
@@ -18,15 +19,24 @@ use crate::limits::known_entry;
 use crate::set::Journals;
 
 impl Row {
-    // Whether the ledger may write no more.
-    fn is_full(&self) -> bool
-        ensures { λ r. ⌜ r ≡ leb 8 (now (self .entry) .len) ⌝ }
+    fn len(&self) -> usize
+        ensures { λ r. ⌜ r ≡ length (codes (now (self .entry))) ⌝ }
     {
-        self.len >= ENTRIES
+        self.len
+    }
+
+    // The code at a place.
+    fn code_at(&self, place: usize) -> Option<u8>
+        ensures { λ r. ⌜ r ≡ nth (codes (now (self .entry))) place ⌝ }
+    {
+        if place >= self.len {
+            return None;
+        }
+        Some(self.entries[place].code())
     }
 
     fn push(&mut self, entry: Entry)
-        requires { ⌜ now self .len < 8 ⌝ }
+        requires { ⌜ length (codes (now self)) < 8 ⌝ }
         ensures { λ _. ⌜ codes (now (self .exit)) ≡ codes (now (self .entry)) ++ (code-of entry ∷ []) ⌝ }
     {
         self.entries[self.len] = entry;
@@ -47,6 +57,21 @@ impl Rows {
             rows: [row; LEDGERS],
         }
     }
+
+    fn row_of(&self, ledger: u8) -> Row
+        requires { ⌜ ledger < 8 ⌝ }
+        ensures { λ r. ⌜ codes r ≡ entries-of (now (self .entry)) ledger ⌝ }
+    {
+        self.rows[ledger as usize]
+    }
+
+    // Every change of a row comes in here.
+    fn store(&mut self, ledger: u8, row: Row)
+        requires { ⌜ ledger < 8 ⌝ }
+        ensures { λ _. ⌜ entries-of (now (self .exit)) ≡ with-list (entries-of (now (self .entry))) ledger (codes row) ⌝ }
+    {
+        self.rows[ledger as usize] = row;
+    }
 }
 
 pub impl Journals for Rows as RowsJournals {
@@ -55,26 +80,23 @@ pub impl Journals for Rows as RowsJournals {
     fn append(&mut self, ledger: u8, code: u8) -> Result<(), JournalsFault> {
         check_ledger(ledger)?;
         let entry = known_entry(ledger, code)?;
-        let mut row = self.rows[ledger as usize];
-        if row.is_full() {
+        let mut row = self.row_of(ledger);
+        if row.len() >= ENTRIES {
             return Err(JournalsFault::of(ledger, JournalsRefusal::JournalFull));
         }
         row.push(entry);
-        self.rows[ledger as usize] = row;
+        self.store(ledger, row);
         Ok(())
     }
 
     fn read(&self, ledger: u8, place: usize) -> Result<u8, JournalsFault> {
         check_ledger(ledger)?;
-        let row = self.rows[ledger as usize];
-        if place >= row.len {
-            return Err(JournalsFault::of(ledger, JournalsRefusal::NothingThere));
-        }
-        Ok(row.entries[place].code())
+        let code = self.row_of(ledger).code_at(place);
+        code.ok_or(JournalsFault::of(ledger, JournalsRefusal::NothingThere))
     }
 
     fn count(&self, ledger: u8) -> Result<usize, JournalsFault> {
         check_ledger(ledger)?;
-        Ok(self.rows[ledger as usize].len)
+        Ok(self.row_of(ledger).len())
     }
 }

@@ -6,26 +6,44 @@ use native.Mathlib.Omega.{arith}
 use Rattle.std.proofs.shelf.Lists.{append-assoc, map-more, take-all}
 use Rattle.std.specs.Of.String.{string-bytes}
 use Rattle.report.specs.Letters.{letter, letters}
+use Rattle.report.proofs.ReadFacts.{read-within, read-code, read-known, read-past, code-small}
 use Rattle.report.proofs.letters.push_letters.Needs as need
 
 letters-some : (codes : List ℕ) → (length codes ≡ 0 → ⊥) → map letter codes ≡ letters codes
 letters-some [] some = absurd (some refl)
 letters-some (code ∷ rest) some = refl
 
-pub loop-place-again : need.loop-place-again
-loop-place-again g c =
-    let codes = g .J·Journals .entries (c .args .journals .now) (c .args .ledger) in
-    let i = c .loop-place .place in
-    let before = string-bytes (c .args .out .now) in
-    let one = letter (getD codes i 0) ∷ [] in
-    c .in-Continue-push-letter .ensures tt
-    ∙ ap (λ bs. bs ++ one) (c .loop-place .inv)
-    ∙ append-assoc before (map letter (take i codes)) one
-    ∙ ap (λ bs. before ++ bs) (sym (map-more letter codes i 0 (omega arith)))
+pub letter-of-requires : need.letter-of-requires
+letter-of-requires g c κs =
+    let j = c .args .journals .now in
+    let p = c .args .ledger in
+    read-known (g .J·Journals .entries j) p (c .loop-code .place) (g .J·Journals·met .known j p) (c .in-Ok .code) (c .in-Ok .ensures tt)
 
-pub returns : need.returns
-returns g c =
-    let codes = g .J·Journals .entries (c .args .journals .now) (c .args .ledger) in
+pub loop-code-less : need.loop-code-less
+loop-code-less g c =
+    omega (arith, read-within (g .J·Journals .entries (c .args .journals .now)) (c .args .ledger) (c .loop-code .place) (c .in-Ok .code) (c .in-Ok .ensures tt))
+
+pub loop-code-again : need.loop-code-again
+loop-code-again g c =
+    let j = c .args .journals .now in
+    let p = c .args .ledger in
+    let E = g .J·Journals .entries j in
+    let i = c .loop-code .place in
+    let within = read-within E p i (c .in-Ok .code) (c .in-Ok .ensures tt) in
+    let known = read-known E p i (g .J·Journals·met .known j p) (c .in-Ok .code) (c .in-Ok .ensures tt) in
+    let pushed = c .in-Continue-push .ensures tt in
+    let one = pushed .ascii (omega (arith, c .letter-of .ensures, code-small (c .in-Ok .code) known)) in
+    let code = one ∙ ap (λ n. n ∷ []) (c .letter-of .ensures ∙ ap letter (read-code E p i (c .in-Ok .code) (c .in-Ok .ensures tt))) in
     let before = string-bytes (c .args .out .now) in
-    let all = take-all (c .loop-place .place) codes (omega arith) in
-    c .loop-place .inv ∙ ap (λ cs. before ++ map letter cs) all ∙ ap (λ bs. before ++ bs) (letters-some codes (λ none. c .if-count-eq0 .left (c .count-of-count .ensures ∙ none)))
+    let bytes : string-bytes (c .push .last .self) ≡ (before ++ map letter (take i (E p))) ++ (letter (getD (E p) i 0) ∷ []) = cc in
+    (bytes ∙ append-assoc before (map letter (take i (E p))) (letter (getD (E p) i 0) ∷ []) ∙ ap (λ bs. before ++ bs) (sym (map-more letter (E p) i 0 within)), omega arith)
+
+pub returns-else-place-eq0 : need.returns-else-place-eq0
+returns-else-place-eq0 g c =
+    let j = c .args .journals .now in
+    let p = c .args .ledger in
+    let codes = g .J·Journals .entries j p in
+    let past = read-past (g .J·Journals .entries j) p (c .loop-code .place) (g .J·Journals·met .bounded j p) (c .in-rest .field-0) (c .in-rest .ensures tt) in
+    let before = string-bytes (c .args .out .now) in
+    let some : length codes ≡ 0 → ⊥ = λ none. c .if-place-eq0 .left (omega arith) in
+    c .loop-code .inv .0 ∙ ap (λ cs. before ++ map letter cs) (take-all (c .loop-code .place) codes past) ∙ ap (λ bs. before ++ bs) (letters-some codes some)

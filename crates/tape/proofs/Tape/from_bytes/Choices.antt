@@ -1,6 +1,6 @@
 use mathlib.Core.List.{[]}
 use mathlib.Core.Path.{_≡_}
-use Prim.Native.Nat.{_*_, _-_, _%_, _≤_}
+use Prim.Native.Nat.{_*_, _-_, _≤_}
 use lib.ListN.{length, drop}
 use Rattle.tape.specs.Bytes.{read-after}
 use Rattle.tape.specs.Tape.{records-of}

@@ -40,7 +40,7 @@ loop-i-again c =
     let trailed = c .next-trailer .ensures ∙ ap (λ rs. trailer rs (r .ledger)) (c .loop-i .inv .0) in
     let bytes = ap (λ n. r .ledger ∷ (r .code ∷ (n % 256 ∷ (n / 256 ∷ [])))) trailed in
     let front : take (4 * i + 4) (c .lay-record .last .buffer) ≡ laid (take i (records-of t)) ++ record-bytes (take i (records-of t)) r = c .lay-record .ensures .front ∙ both (c .loop-i .inv .1) bytes in (
-      c .push .ensures ∙ ap (λ rs. rs ++ (r ∷ [])) (c .loop-i .inv .0) ∙ sym more,
+      c .push .ensures .records ∙ ap (λ rs. rs ++ (r ∷ [])) (c .loop-i .inv .0) ∙ sym more,
       rw (four-more i) (front ∙ sym (laid-push (take i (records-of t)) r) ∙ ap laid (sym more)),
       rw (four-more i) (c .lay-record .ensures .rest ∙ drop-further (c .loop-i .buffer) (c .args .buffer .now) (4 * i) 4 (c .loop-i .inv .2)),
     )

@@ -1,7 +1,5 @@
-use mathlib.Core.Path.{_≡_, ap, sym, _∙_}
-use Rattle.std.specs.declared.option.Option.the-variants.{Some}
+use mathlib.Core.Path.{ap, sym, _∙_}
 use Rattle.std.specs.shelf.Maps.{nth}
-use Rattle.tape.specs.Records.{codes-of}
 use Rattle.tape.proofs.RecordFacts.{codes-next, codes-end, nth-ahead}
 use Rattle.tape.proofs.records.code_at.Needs as need
 

@@ -1,17 +1,12 @@
-use Prim.Native.Nat.{_≤_}
 use mathlib.Core.List.{map}
-use mathlib.Core.Path.{_≡_, ap, _∙_}
-use lib.ListN.{length}
-use native.Mathlib.Omega.{arith}
-use Rattle.std.proofs.shelf.Lists.{length-map}
-use Rattle.tape.specs.Records.{count-of}
-use Rattle.tape.specs.Tape.{entries-of, records-of}
+use mathlib.Core.Path.{ap}
+use Rattle.tape.specs.Tape.{records-of}
 use Rattle.tape.specs.declared.records.Record.{Record}
 use Rattle.tape.proofs.RecordFacts.{at-most-8, codes-known, none-past}
 use Rattle.tape.proofs.calls.TapeJournals.the-impl.Needs as need
 
 pub short-law : need.short-law
-short-law j p = simp length-map (at-most-8 (records-of j) (j .kept) p)
+short-law j p = at-most-8 (records-of j) (j .kept) p
 
 pub known-law : need.known-law
 known-law j p = codes-known (records-of j) (j .kept) p
