@@ -11,17 +11,18 @@ use native.Mathlib.Omega.{arith}
 use Rattle.std.proofs.shelf.Elements.{kept-by-append, all-getD, all-push, all-kept-by, all-map, all-weaker}
 use Rattle.std.proofs.shelf.Lists.{length-append, length-map, map-append, append-nil, getD-at}
 use Rattle.std.proofs.shelf.Tests.{and-parts, and-from, leb-true, le-leb, eq-eqb, cases-lt}
-use Rattle.std.proofs.shelf.Ways.{tells, decides-by-and, decides-below-and}
-use Rattle.std.specs.Orderings.{Decides}
+use Rattle.std.proofs.shelf.Ways.{tells}
 use Rattle.std.specs.declared.option.Option.{Option}
 use Rattle.std.specs.declared.option.Option.the-variants.{Some, None}
 use Rattle.std.specs.shelf.Lists.{All, kept-by}
 use Rattle.std.specs.shelf.Maps.{nth}
 use Rattle.owned.proofs.Crowd.{owned-by, crowd}
 use Rattle.owned.proofs.Kept.{next-some, next-none}
+use Rattle.owned.proofs.EveryFacts.{decides-every, decides-below}
+use Rattle.owned.specs.Every.{every, every-below}
 use Rattle.owned.specs.Search.{next-of}
 use Rattle.journals.specs.Codes.{is-code, is-ledger}
-use Rattle.tape.specs.Records.{is-of, codes-of, count-of, latest-from, latest, is-record, every, every-below, lawful, track-of}
+use Rattle.tape.specs.Records.{is-of, codes-of, count-of, latest-from, latest, is-record, lawful, track-of}
 use Rattle.tape.specs.declared.records.Record.{Record}
 
 module _ (p : ℕ) (rs : List Record) (r : Record) where
@@ -62,13 +63,6 @@ latest-from-within p (r ∷ rs) i k before earlier e =
 
 pub latest-within : (p : ℕ) (rs : List Record) (k : ℕ) → latest p rs ≡ Some k → k < length rs
 latest-within p rs k e = omega (arith, latest-from-within p rs 0 k None (λ b none. absurd (let z : _≡_ {A = ℕ} 0 1 = cc in omega arith)) e)
-
--- a test of each element, and of each number below eight
-decides-every : {X : Type 0} (test : X → Bool) (xs : List X) → Decides (every test xs) (All (λ x. test x ≡ true) xs)
-decides-every test = decides-by-and test (λ x. test x ≡ true) (every test) (λ x. ((λ e. e), (λ e. e))) refl (λ _ _. refl)
-
-decides-below : (test : ℕ → Bool) (n : ℕ) → Decides (every-below test n) ((k : ℕ) → k < n → test k ≡ true)
-decides-below test = decides-below-and test (λ k. test k ≡ true) (every-below test) (λ k. ((λ e. e), (λ e. e))) refl (λ _. refl)
 
 module _ (rs : List Record) (law : lawful rs ≡ true) where
   parts : (every is-record rs ≡ true) × (every-below (λ p. leb (count-of p rs) 8) 8 ≡ true)

@@ -1,12 +1,13 @@
 -- What a list of records tells of each ledger.
-use mathlib.Core.Bool.{Bool, true, cond, _&&_}
+use mathlib.Core.Bool.{Bool, cond, _&&_}
 use mathlib.Core.List.{List, [], _∷_, map}
-use Prim.Native.Nat.{ℕ, zero, suc, _+_}
+use Prim.Native.Nat.{ℕ, _+_}
 use lib.Dec.{eqb, leb}
 use lib.ListN.{length}
 use Rattle.std.specs.declared.option.Option.{Option}
 use Rattle.std.specs.declared.option.Option.the-variants.{Some, None}
 use Rattle.std.specs.shelf.Lists.{kept-by}
+use Rattle.owned.specs.Every.{every, every-below}
 use Rattle.journals.specs.Codes.{is-code, is-ledger}
 use Rattle.tape.specs.declared.records.Record.{Record}
 use Rattle.tape.specs.declared.records.Track.{Track}
@@ -33,15 +34,6 @@ latest p rs = latest-from 0 p rs None
 -- a ledger from 0 to 7 and a code from 1 to 10
 abbrev pub is-record : Record → Bool
 is-record r = is-ledger (r .ledger) && is-code (r .code)
-
-abbrev pub every : {X : Type 0} → (X → Bool) → List X → Bool
-every test [] = true
-every test (x ∷ xs) = test x && every test xs
-
--- the test holds of each number below n
-abbrev pub every-below : (ℕ → Bool) → ℕ → Bool
-every-below test zero = true
-every-below test (suc n) = test n && every-below test n
 
 -- what a tape can hold: at most eight records of a ledger
 abbrev pub lawful : List Record → Bool

@@ -1,0 +1,4 @@
+// What ledgers send each other, and what a network of links between them means.
+pub mod fault;
+pub mod link;
+pub mod message;
