@@ -1,1 +1,2 @@
+pub mod ForwardFacts
 pub mod LinkFacts

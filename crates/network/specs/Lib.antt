@@ -1,3 +1,4 @@
+pub mod Forward
 pub mod Links
 pub mod Messages
 pub mod Refusals

@@ -16,6 +16,13 @@ use crate::message::Message;
 // The ledgers are numbered from 0 to 7.
 pub const LEDGERS: usize = 8;
 
+// From one ledger to another.
+#[derive(Clone, Copy)]
+pub struct Link {
+    pub sender: u8,
+    pub receiver: u8,
+}
+
 // Refuses a pair that is no link: two different ledgers make one.
 pub fn check_link(sender: u8, receiver: u8) -> Result<(), NetworkFault>
     ensures { λ r. ⌜ Cases r (λ _. is-link sender receiver ≡ true) (λ fault. (is-link sender receiver ≡ false) × (fault ≡ refused sender receiver UnknownLedger)) ⌝ }

@@ -14,6 +14,7 @@ use Rattle.std.proofs.shelf.Ways.{tells}
 use Rattle.std.specs.declared.option.Option.the-variants.{Some, None}
 use Rattle.std.specs.shelf.Lists.{All, kept-by}
 use Rattle.network.specs.Links.{is-link}
+use Rattle.network.specs.declared.link.Link.{Link}
 use Rattle.network.specs.declared.message.Message.{Message}
 use Rattle.network.specs.declared.message.Message.the-variants.{Prepare}
 use Rattle.owned.proofs.Crowd.{owned-by, crowd}
@@ -22,7 +23,6 @@ use Rattle.owned.proofs.Kept.{next-some, next-none}
 use Rattle.owned.specs.Every.{every, every-below}
 use Rattle.owned.specs.Search.{next-of}
 use Rattle.pool.specs.Sent.{is-on, link-of, lawful}
-use Rattle.pool.specs.declared.sent.Link.{Link}
 use Rattle.pool.specs.declared.sent.Sent.{Sent}
 
 abbrev message-in : Sent → Message

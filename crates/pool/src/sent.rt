@@ -4,16 +4,10 @@ ghost use mathlib.Core.Path.{_≡_};
 ghost use lib.Dec.{eqb};
 ghost use lib.ListN.{length};
 ghost use Rattle.pool.specs.Sent.{link-of};
+use network::link::Link;
 use network::message::Message;
 use owned::Owned;
 use owned::next_of;
-
-// From one ledger to another.
-#[derive(Clone, Copy)]
-pub struct Link {
-    pub sender: u8,
-    pub receiver: u8,
-}
 
 #[derive(Clone, Copy)]
 pub struct Sent {

@@ -1,0 +1,3 @@
+// Tests of the networks.
+#[cfg(test)]
+mod links;
