@@ -34,3 +34,9 @@ all-answer (suc n) depth links from to = cond (isOk (one-answer depth links from
 abbrev pub all-after : ℕ → ℕ → Links → Link → Link → Links
 all-after zero depth links from to = links
 all-after (suc n) depth links from to = cond (isOk (one-answer depth links from to)) (all-after n depth (one-after depth links from to) from to) links
+
+-- what lies on the target, and then what lies on the source, stays one and the same list: nothing is lost, made or overtaken
+abbrev pub Together : Links → Links → Link → Link → Type 0
+Together before after from to =
+    ((from .sender ≡ to .sender) × (from .receiver ≡ to .receiver) → ⊥)
+    → after (to .sender) (to .receiver) ++ after (from .sender) (from .receiver) ≡ before (to .sender) (to .receiver) ++ before (from .sender) (from .receiver)

@@ -1,6 +1,6 @@
 // Moving messages from one link to another, over any network.
 ghost use mathlib.Core.Path.{_≡_};
-ghost use Rattle.network.specs.Forward.{all-after, all-answer, one-after, one-answer};
+ghost use Rattle.network.specs.Forward.{Together, all-after, all-answer, one-after, one-answer};
 use crate::fault::NetworkFault;
 use crate::link::Link;
 use crate::link::Network;
@@ -25,6 +25,7 @@ pub fn forward_all<N: Network>(
     most: usize,
 ) -> Result<(), NetworkFault>
     ensures answer { λ r. ⌜ r ≡ all-answer most depth (links (now (network .entry))) from to ⌝ }
+    ensures together { λ _. ⌜ Together (links (now (network .entry))) (links (now (network .exit))) from to ⌝ }
     ensures after { λ _. ⌜ links (now (network .exit)) ≡ all-after most depth (links (now (network .entry))) from to ⌝ }
 {
     for _moved in 0..most {
