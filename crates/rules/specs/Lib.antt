@@ -1,0 +1,4 @@
+pub mod Entries
+pub mod Ledgers
+pub mod Rules
+pub mod Stages
