@@ -1,2 +1,3 @@
 pub mod CodeFacts
 pub mod RowFacts
+pub mod ReadFacts

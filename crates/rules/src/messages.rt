@@ -14,7 +14,8 @@ use network::message::Message;
 use network::message::Vote;
 
 impl Row {
-    pub(crate) fn in_stage(self, stage: Stage) -> Row
+    // The row in another stage.
+    pub fn in_stage(self, stage: Stage) -> Row
         ensures { λ r. ⌜ r ≡ in-stage self stage ⌝ }
     {
         let mut row = self;

@@ -1,6 +1,6 @@
 // How far a ledger has come with the batch.
 ghost use mathlib.Core.Path.{_≡_};
-ghost use Rattle.rules.specs.Stages.{counts, held, leads};
+ghost use Rattle.rules.specs.Stages.{counts, held, initial, leads};
 use network::message::Decision;
 
 // Whether a ledger's machine runs.
@@ -36,6 +36,16 @@ impl Stage {
             Stage::Announced(decision) => Some(decision),
             Stage::Decided(decision) => Some(decision),
             _ => None,
+        }
+    }
+
+    // Whether nothing has been done yet.
+    pub fn is_initial(self) -> bool
+        ensures { λ r. ⌜ r ≡ initial self ⌝ }
+    {
+        match self {
+            Stage::Initial => true,
+            _ => false,
         }
     }
 

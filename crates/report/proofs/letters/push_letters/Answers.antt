@@ -6,7 +6,7 @@ use native.Mathlib.Omega.{arith}
 use Rattle.std.proofs.shelf.Lists.{append-assoc, map-more, take-all}
 use Rattle.std.specs.Of.String.{string-bytes}
 use Rattle.report.specs.Letters.{letter, letters}
-use Rattle.report.proofs.ReadFacts.{read-within, read-code, read-known, read-past, code-small}
+use Rattle.journals.proofs.ReadFacts.{read-within, read-code, read-known, read-past, code-small}
 use Rattle.report.proofs.letters.push_letters.Needs as need
 
 letters-some : (codes : List ℕ) → (length codes ≡ 0 → ⊥) → map letter codes ≡ letters codes
