@@ -8,6 +8,7 @@ use Rattle.std.specs.declared.option.Option.{Option}
 use Rattle.std.specs.declared.option.Option.the-variants.{Some, None}
 use Rattle.std.specs.declared.result.Result.{Result}
 use Rattle.std.specs.declared.result.Result.the-variants.{Ok, Err}
+use Rattle.journals.specs.Calls.{read-answer}
 use Rattle.journals.specs.declared.entry.Entry.the-variants.{Begin}
 use Rattle.network.specs.Links.{look-answer, take-after}
 use Rattle.network.specs.declared.fault.NetworkFault.{NetworkFault}
@@ -21,7 +22,7 @@ use Rattle.rules.specs.declared.row.Row.{Row}
 use Rattle.rules.specs.declared.stage.Stage.the-variants.{Initial, Preparing}
 use Rattle.rules.specs.declared.stage.Status.{Status}
 use Rattle.rules.specs.declared.stage.Status.the-variants.{Stopped, Running, Restarted}
-use Rattle.floor.specs.Perform.{perform-after, perform-answer, with-row}
+use Rattle.floor.specs.Perform.{from-journals, perform-after, perform-answer, with-row}
 use Rattle.floor.specs.Recovery.{finding}
 use Rattle.floor.specs.State.{State, has, known, member-of, row-of, runs}
 use Rattle.floor.specs.declared.delivery.Delivery.{Delivery}
@@ -171,3 +172,7 @@ restart-after depth s p = found-after depth s p (restart-of s p)
 -- status: 2
 abbrev pub status-answer : State → ℕ → Result Status FloorFault
 status-answer s p = check (known s p) (Refused UnknownLedger p 255) (Ok (row-of s p .status))
+
+-- read: the journals' own answer
+abbrev pub read-of : State → ℕ → ℕ → Result ℕ FloorFault
+read-of s p place = from-journals (read-answer (s .entries) p place)

@@ -17,8 +17,8 @@ use Rattle.floor.specs.State.{State}
 use Rattle.floor.specs.declared.fault.FloorFault.{FloorFault}
 use Rattle.floor.specs.declared.fault.FloorFault.the-variants.{Link, Journal}
 
-abbrev pub from-journals : Result Unit JournalsFault → Result Unit FloorFault
-from-journals (Ok x) = Ok tt
+abbrev pub from-journals : {A : Type 0} → Result A JournalsFault → Result A FloorFault
+from-journals (Ok x) = Ok x
 from-journals (Err fault) = Err (Journal fault)
 
 abbrev pub from-network : Result Unit NetworkFault → Result Unit FloorFault

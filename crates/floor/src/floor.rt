@@ -13,6 +13,7 @@ mod opening;
 mod perform;
 mod reads;
 
+#[derive(Drop)]
 pub struct Floor<N: Network, J: Journals> {
     network: N,
     journals: J,

@@ -1,12 +1,13 @@
 // The calls that carry a batch.
 ghost use mathlib.Core.Path.{_≡_};
-ghost use Rattle.floor.specs.Calls.{begin-after, begin-answer, deliver-after, deliver-answer, expire-after, expire-answer, restart-after, restart-answer, status-answer, step-after, step-answer, stop-after, stop-answer};
+ghost use Rattle.floor.specs.Calls.{begin-after, begin-answer, deliver-after, deliver-answer, expire-after, expire-answer, read-of, restart-after, restart-answer, status-answer, step-after, step-answer, stop-after, stop-answer};
 ghost use Rattle.floor.specs.State.{state};
 use super::Floor;
 use super::reads::fresh;
 use super::reads::runs;
 use crate::delivery::Delivery;
 use crate::fault::FloorFault;
+use crate::fault::FloorFaultFromJournals;
 use crate::fault::FloorFaultFromNetwork;
 use crate::fault::FloorRefusal;
 use crate::recovery::Recovery;
@@ -122,6 +123,14 @@ impl<N: Network, J: Journals> Floor<N, J> {
             return Err(FloorFault::Refused(FloorRefusal::UnknownLedger, ledger, NO_LEDGER));
         }
         Ok(self.row_of(ledger).status)
+    }
+
+    // The code at a place of a ledger's journal.
+    pub fn read(&self, ledger: u8, place: usize) -> Result<u8, FloorFault>
+        ensures { λ r. ⌜ r ≡ read-of (state links entries (now (self .entry))) ledger place ⌝ }
+    {
+        let code = self.journals.read(ledger, place)?;
+        Ok(code)
     }
 
     // How many messages were sent since the opening.
