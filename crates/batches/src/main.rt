@@ -1,4 +1,6 @@
 // Runs two whole batches, over the pool and the rows and over the lanes and the tape, and prints what each call did.
+#![tactic(auto)]
+
 use floor::floor::Floor;
 use floor::opening::Opening;
 use journals::rows::Rows;

@@ -1,4 +1,6 @@
 // Tests of the floor.
+#![tactic(auto)]
+
 #[cfg(test)]
 mod batches;
 #[cfg(test)]

@@ -1,4 +1,6 @@
 // What the ledgers wrote: what a set of journals means, and the rows, a set that keeps it.
+#![tactic(auto)]
+
 pub mod entry;
 pub mod fault;
 pub mod limits;

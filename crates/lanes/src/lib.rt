@@ -1,4 +1,6 @@
 // The lanes: a network that keeps a ring of its own for each link.
+#![tactic(auto)]
+
 ghost use Rattle.std.specs.Prelude.{◌≡◌, length};
 
 use ring::Ring;

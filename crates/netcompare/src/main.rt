@@ -1,4 +1,6 @@
 // Pushes one list of calls through the pool and through the lanes, and prints where they differ.
+#![tactic(auto)]
+
 use lanes::Lanes;
 use network::fault::NetworkFault;
 use network::link::Network;

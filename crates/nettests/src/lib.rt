@@ -1,3 +1,5 @@
 // Tests of the networks.
+#![tactic(auto)]
+
 #[cfg(test)]
 mod links;

@@ -1,4 +1,6 @@
 // Elements that have an owner, and the one search for the next element of an owner.
+#![tactic(auto)]
+
 ghost use Rattle.std.specs.Prelude.{◌≡◌, Bool, true};
 ghost use Rattle.owned.specs.Search.{First, next_of};
 
@@ -17,8 +19,8 @@ pub trait Owned {
 
 // The index of the first element at or after `start` that belongs to `owner`.
 pub fn next_of<T: Owned>(elements: &[T], start: usize, owner: &T::Owner) -> Option<usize>
-    ensures answer { result ≡ next_of (λ x. belongs x owner.now) elements.now start }
-    ensures first { First (λ x. belongs x owner.now) elements.now start result }
+    ensures answer { result ≡ next_of (λ x. T.belongs x owner.now) elements.now start }
+    ensures first { First (λ x. T.belongs x owner.now) elements.now start result }
 {
     for i in start..elements.len() {
         if elements[i].belongs_to(owner) {

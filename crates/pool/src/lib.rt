@@ -1,4 +1,6 @@
 // The pool: a network that keeps all messages in one table, in the order of sending.
+#![tactic(auto)]
+
 ghost use Rattle.std.specs.Prelude.{◌≡◌, ◌≤◌, true, length, take};
 ghost use Rattle.pool.specs.Sent.{lawful};
 

@@ -1,4 +1,6 @@
 // What holds of every run of a floor.
+#![tactic(auto)]
+
 ghost use Rattle.promises.specs.Promises.{Kept};
 
 pub fn promises_are_kept() -> u8

@@ -1,4 +1,6 @@
 // Rehearses a script from standard input over the pool and the rows, and prints what each call did.
+#![tactic(auto)]
+
 use journals::rows::Rows;
 use network::link::Network;
 use pool::Pool;

@@ -1,4 +1,6 @@
 // The rules of one ledger: what it does with a step, a message and an expiry.
+#![tactic(auto)]
+
 mod announcement;
 pub mod effect;
 pub mod expiry;

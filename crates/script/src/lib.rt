@@ -1,4 +1,6 @@
 // Scripts: lines of calls, read and played on a floor.
+#![tactic(auto)]
+
 mod calls;
 pub mod fault;
 pub mod first;

@@ -1,4 +1,6 @@
 // Tests of scripts.
+#![tactic(auto)]
+
 #[cfg(test)]
 mod edges;
 #[cfg(test)]

@@ -1,4 +1,6 @@
 // The tape: a set of journals that keeps one list of records for all ledgers.
+#![tactic(auto)]
+
 ghost use Rattle.std.specs.Prelude.{◌≡◌, ℕ, ◌<◌, ◌≤◌, true, length, take, slice_index_or};
 ghost use Rattle.tape.specs.Records.{lawful, no_track, track_of};
 

@@ -1,4 +1,6 @@
 // Reads a tape from standard input, and prints what every ledger wrote, or where the tape is torn.
+#![tactic(auto)]
+
 use report::verdict::tape_verdict;
 use std::io;
 use std::io::{Read, Write};

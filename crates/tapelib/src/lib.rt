@@ -1,4 +1,6 @@
 // The check of a tape, exported for programs in other languages.
+#![tactic(auto)]
+
 ghost use Rattle.std.specs.Prelude.{◌≡◌, is_ok};
 ghost use Rattle.tape.specs.Bytes.{read_tape};
 ghost use Rattle.tapelib.specs.Check.{place_after};

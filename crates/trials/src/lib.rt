@@ -1,4 +1,6 @@
 // Openings, restarts, tapes and whole runs, each with what must come out of it.
+#![tactic(auto)]
+
 ghost use Rattle.trials.specs.Cases.{TrialCases};
 
 pub fn trial_cases_hold() -> u8

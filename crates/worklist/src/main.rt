@@ -1,4 +1,6 @@
 // Plays a script from standard input over the pool and the rows, and prints what a person must settle.
+#![tactic(auto)]
+
 use journals::rows::Rows;
 use network::link::Network;
 use pool::Pool;
