@@ -7,5 +7,5 @@ abbrev pub invariant-loop-moved : goal.invariant-loop-moved
 invariant-loop-moved g l =
     let depth = g.N.Network.depth in
     let links = g.N.Network.links in
-    (all_answer (l.most - l.-moved) depth (links l.network) l.from l.to ≡ all_answer l.most depth (links l.initial.network) l.from l.to)
-    × (all_after (l.most - l.-moved) depth (links l.network) l.from l.to ≡ all_after l.most depth (links l.initial.network) l.from l.to)
+    (all_answer (l.most - l._moved) depth (links l.network) l.from l.to ≡ all_answer l.most depth (links l.initial.network) l.from l.to)
+    × (all_after (l.most - l._moved) depth (links l.network) l.from l.to ≡ all_after l.most depth (links l.initial.network) l.from l.to)
