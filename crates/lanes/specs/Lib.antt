@@ -1,4 +1,3 @@
+pub mod LaneLaws
 pub mod Lanes
 pub mod Rings
-pub mod LaneFacts
-pub mod RingFacts

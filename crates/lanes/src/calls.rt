@@ -3,9 +3,8 @@ ghost use Rattle.std.specs.Prelude.{◌≡◌, ◌+◌, ◌*◌, ◌≤◌, true
 ghost use Rattle.lanes.specs.Lanes.{links_of};
 ghost use Rattle.lanes.specs.Rings.{messages};
 ghost use Rattle.network.specs.Links.{is_link, no_links, with_link};
-ghost use Rattle.std.proofs.Common.{arith, rules};
-ghost use Rattle.lanes.specs.LaneFacts.{each_ring};
-ghost use Rattle.lanes.specs.RingFacts.{round_length};
+ghost use Rattle.std.proofs.Common.{lit≤};
+ghost use Rattle.lanes.specs.LaneLaws.{at_most_4, none_outside};
 
 use crate::ring::{Ring, SLOTS};
 use crate::{Lanes, RINGS};
@@ -47,15 +46,11 @@ impl Network for Lanes {
 
     ghost links = { links_of };
 
-    ghost deep = { first_of (Prim.search rules, Prim.grind (arith, Self.row.coded.inj)) };
+    ghost deep = { lit≤ tt };
 
-    ghost short = { λ n q p.
-        elim (is_link q p) as (λ b. length (if b then slice_index_or (map messages n.rings) (8 * q + p) [] else []) ≤ 4) [
-          | true ↦ each_ring (λ ms. length ms ≤ 4) (omega arith) n.rings (λ ring. omega (arith, round_length ring.slots ring.head ring.len)) (8 * q + p)
-          | false ↦ omega arith
-        ] };
+    ghost short = { at_most_4 };
 
-    ghost bounded = { first_of (Prim.search rules, Prim.grind (arith, Self.row.coded.inj)) };
+    ghost bounded = { none_outside };
 
     fn link_depth() -> usize {
         Self::DEPTH

@@ -1,5 +1,5 @@
 use mathlib.Core.Path.{fun_ext}
-use Rattle.lanes.specs.LaneFacts.{none_new}
+use Rattle.lanes.proofs.LaneFacts.{none_new}
 use Rattle.lanes.proofs.Lanes.new.Goals as goal
 
 pub returns : goal.returns

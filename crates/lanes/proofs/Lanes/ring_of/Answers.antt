@@ -1,7 +1,7 @@
 use Rattle.std.proofs.Common.{◌+◌, ◌*◌, ◌<◌, cond, [], map, length, get_or, sym, ap, ◌∙◌, arith}
 use Rattle.std.proofs.lemmas.List.{get_or-map}
 use Rattle.lanes.specs.Rings.{messages}
-use Rattle.lanes.specs.LaneFacts.{below}
+use Rattle.lanes.proofs.LaneFacts.{below}
 use Rattle.lanes.proofs.Lanes.ring_of.Goals as goal
 
 pub listed : goal.listed

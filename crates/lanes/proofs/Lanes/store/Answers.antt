@@ -1,6 +1,6 @@
 use mathlib.Core.Path.{fun_ext}
 use Rattle.std.proofs.Common.{arith}
-use Rattle.lanes.specs.LaneFacts.{below, links_set}
+use Rattle.lanes.proofs.LaneFacts.{below, links_set}
 use Rattle.lanes.proofs.Lanes.store.Goals as goal
 
 pub listed : goal.listed

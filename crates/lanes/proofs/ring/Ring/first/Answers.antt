@@ -1,4 +1,4 @@
-use Rattle.lanes.specs.RingFacts.{round_first}
+use Rattle.lanes.proofs.RingFacts.{round_first}
 use Rattle.lanes.proofs.ring.Ring.first.Goals as goal
 
 pub returns : goal.returns

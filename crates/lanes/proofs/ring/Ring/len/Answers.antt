@@ -1,5 +1,5 @@
 use Rattle.std.proofs.Common.{sym}
-use Rattle.lanes.specs.RingFacts.{round_length}
+use Rattle.lanes.specs.LaneLaws.{round_length}
 use Rattle.lanes.proofs.ring.Ring.len.Goals as goal
 
 pub returns : goal.returns

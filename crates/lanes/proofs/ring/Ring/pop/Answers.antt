@@ -1,4 +1,4 @@
-use Rattle.lanes.specs.RingFacts.{round_pop}
+use Rattle.lanes.proofs.RingFacts.{round_pop}
 use Rattle.lanes.proofs.ring.Ring.pop.Goals as goal
 
 pub returns : goal.returns

@@ -1,5 +1,6 @@
 use Rattle.std.proofs.Common.{arith}
-use Rattle.lanes.specs.RingFacts.{round_length, round_push}
+use Rattle.lanes.specs.LaneLaws.{round_length}
+use Rattle.lanes.proofs.RingFacts.{round_push}
 use Rattle.lanes.proofs.ring.Ring.push.Goals as goal
 
 pub returns : goal.returns

@@ -7,10 +7,6 @@ use Rattle.network.specs.declared.message.Message.{Message}
 use Rattle.network.specs.declared.message.Message.TheVariants.{Prepare}
 use Rattle.lanes.specs.Rings.{round}
 
-pub round_length : (slots : List Message) (h n : ℕ) → length (round slots h n) ≡ n
-round_length slots h zero = refl
-round_length slots h (suc n) = ap suc (round_length slots ((h + 1) % 4) n)
-
 -- one message more at the end
 round_more : (slots : List Message) (h n : ℕ) → h < 4 → round slots h (suc n) ≡ round slots h n ++ (slice_index_or slots ((h + n) % 4) Prepare ∷ [])
 round_more slots h zero low = let same : h ≡ (h + 0) % 4 = omega arith in ap (λ k. slice_index_or slots k Prepare ∷ []) same

@@ -1,5 +1,5 @@
 -- Lanes read at one link, and after one ring is stored.
-use Rattle.std.specs.Prelude.{◌≡◌, ℕ, zero, suc, ◌+◌, ◌*◌, ◌<◌, Bool, true, false, cond, not, ◌&&◌, List, [], ◌∷◌, map, length, get_or, replicate, ◌==◌, nat_lt, slice_index_or, slice_set, refl}
+use Rattle.std.specs.Prelude.{◌≡◌, ℕ, zero, suc, ◌+◌, ◌*◌, ◌<◌, Bool, true, false, cond, not, ◌&&◌, List, [], map, length, get_or, replicate, ◌==◌, nat_lt, slice_index_or, slice_set, refl}
 use Rattle.std.proofs.Common.{ap, sym, ◌∙◌, arith}
 use Rattle.std.proofs.lemmas.List.{length-map, get_or-set_same, get_or-set_other, map-set}
 use Rattle.std.proofs.lemmas.Bool.{and_parts, eqb-true, ltb-true, true≢false}
@@ -10,12 +10,6 @@ use Rattle.lanes.specs.Lanes.{links_of}
 use Rattle.lanes.specs.Rings.{messages}
 use Rattle.lanes.specs.declared.Lanes.{Lanes}
 use Rattle.lanes.specs.declared.ring.Ring.{Ring}
-
--- what holds of no messages and of the messages of each ring holds of each place's
-pub each_ring : (P : List Message → Type 0) → P [] → (rings : List Ring) → ((ring : Ring) → P (messages ring)) → (i : ℕ) → P (slice_index_or (map messages rings) i [])
-each_ring P none [] every i = none
-each_ring P none (ring ∷ rings) every zero = every ring
-each_ring P none (ring ∷ rings) every (suc i) = each_ring P none rings every i
 
 ends : (q p : ℕ) → is_link q p ≡ true → (q < 8) × (p < 8)
 unfolding is_link

@@ -1,0 +1,2 @@
+pub mod LaneFacts
+pub mod RingFacts
