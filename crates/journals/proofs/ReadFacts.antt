@@ -4,7 +4,7 @@ use Rattle.std.proofs.ByRecursion.{All-get_or}
 use Rattle.std.proofs.lemmas.Option.{slice_get-get_or, slice_get_past}
 use Rattle.std.proofs.lemmas.Bool.{and_parts, leb-true}
 use Rattle.std.proofs.lemmas.Bool.Decides.{nat_tests}
-use Rattle.std.specs.List.{AllByRecursion as All}
+use Rattle.std.specs.List.{AllByRecursion}
 use Rattle.journals.specs.Calls.{Entries, read_answer}
 use Rattle.journals.specs.Codes.{is_code}
 use Rattle.journals.specs.declared.fault.JournalsFault.{JournalsFault}
@@ -16,7 +16,7 @@ module _ (E : Entries) (p place : ℕ) where
   pub read_code : (code : ℕ) → Ok code ≡ read_answer E p place → code ≡ get_or (E p) place 0
   read_code code e = let within = read_within code e in grind (arith, nat_tests, slice_get-get_or (E p) place 0 within)
 
-  pub read_known : All (λ code. is_code code ≡ true) (E p) → (code : ℕ) → Ok code ≡ read_answer E p place → is_code code ≡ true
+  pub read_known : AllByRecursion (λ code. is_code code ≡ true) (E p) → (code : ℕ) → Ok code ≡ read_answer E p place → is_code code ≡ true
   read_known known code e = rw (read_code code e) (All-get_or (λ c. is_code c ≡ true) (E p) place 0 (read_within code e) known)
 
   pub read_past : (8 ≤ p → E p ≡ []) → (fault : JournalsFault) → Err fault ≡ read_answer E p place → length (E p) ≤ place

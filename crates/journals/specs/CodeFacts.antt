@@ -1,6 +1,6 @@
 -- What the definitions of codes give.
 use Rattle.std.specs.Prelude.{◌≡◌, true, List, [], ◌∷◌, map, refl}
-use Rattle.std.specs.List.{AllByRecursion as All}
+use Rattle.std.specs.List.{AllByRecursion}
 use Rattle.journals.specs.Codes.{code_of, is_code}
 use Rattle.journals.specs.declared.entry.Entry.{Entry}
 use Rattle.journals.specs.declared.entry.Entry.TheVariants.{Begin, ReadyYes, ReadyNo, CommitReached, AbortReached, CommitReceived, AbortReceived, TransactionCommit, TransactionAbort, Dispute}
@@ -17,6 +17,6 @@ coded TransactionCommit = refl
 coded TransactionAbort = refl
 coded Dispute = refl
 
-pub all_coded : (es : List Entry) → All (λ c. is_code c ≡ true) (map code_of es)
+pub all_coded : (es : List Entry) → AllByRecursion (λ c. is_code c ≡ true) (map code_of es)
 all_coded [] = tt
 all_coded (e ∷ es) = (coded e, all_coded es)

@@ -2,5 +2,5 @@ pub mod Calls
 pub mod Codes
 pub mod Refusals
 pub mod Rows
-pub mod RowFacts
 pub mod CodeFacts
+pub mod RowFacts

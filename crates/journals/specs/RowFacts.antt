@@ -1,13 +1,15 @@
 -- What the rows mean, read at one ledger and after one row is stored.
-use Rattle.std.specs.Prelude.{◌≡◌, ℕ, zero, suc, ◌<◌, ◌≤◌, List, [], ◌∷◌, map, length, slice_index_or, slice_set}
+use Rattle.std.specs.Prelude.{◌≡◌, ℕ, zero, suc, ◌<◌, ◌≤◌, true, List, [], ◌∷◌, map, length, slice_index_or, slice_set}
+use Rattle.std.specs.List.{AllByRecursion}
 use Rattle.std.proofs.Common.{◌∙◌, arith}
 use Rattle.std.proofs.lemmas.List.{length-map, length-take-le, get_or_past, get_or-set_same, get_or-set_other, map-set}
 use Rattle.std.proofs.lemmas.Bool.Decides.{nat_tests}
 use Rattle.journals.specs.Calls.{with_list}
-use Rattle.journals.specs.Codes.{code_of}
+use Rattle.journals.specs.Codes.{code_of, is_code}
 use Rattle.journals.specs.Rows.{codes, entries_of}
 use Rattle.journals.specs.declared.rows.Row.{Row}
 use Rattle.journals.specs.declared.rows.Rows.{Rows}
+use Rattle.journals.specs.CodeFacts.{all_coded}
 
 pub codes_length : (row : Row) → length (codes row) ≡ row.len
 codes_length row = length-map _ code_of ∙ length-take-le _ _ (omega arith)
@@ -25,3 +27,9 @@ entries_set j p row below q =
 
 pub entries_past : (j : Rows) (p : ℕ) → 8 ≤ p → entries_of j p ≡ []
 entries_past j p past = get_or_past _ p [] (simp length-map (omega arith))
+
+pub entries_short : (j : Rows) (p : ℕ) → length (entries_of j p) ≤ 8
+entries_short j = each_row (λ cs. length cs ≤ 8) (omega arith) j.rows (λ row. omega (arith, codes_length row))
+
+pub entries_known : (j : Rows) (p : ℕ) → AllByRecursion (λ c. is_code c ≡ true) (entries_of j p)
+entries_known j = each_row (AllByRecursion (λ c. is_code c ≡ true)) tt j.rows (λ row. all_coded _)

@@ -2,7 +2,7 @@
 ghost use Rattle.std.specs.Prelude.{◌≡◌, ℕ, ◌≤◌, true, List, [], length};
 ghost use Rattle.journals.specs.Calls.{append_answer, append_after, read_answer, count_answer};
 ghost use Rattle.journals.specs.Codes.{is_code};
-ghost use Rattle.std.specs.List.{AllByRecursion as All};
+ghost use Rattle.std.specs.List.{AllByRecursion};
 
 use crate::fault::JournalsFault;
 
@@ -25,7 +25,7 @@ pub trait Journals {
 
     ghost short: { (j : Self) (p : ℕ) → length (entries j p) ≤ 8 };
 
-    ghost known: { (j : Self) (p : ℕ) → All (λ c. is_code c ≡ true) (entries j p) };
+    ghost known: { (j : Self) (p : ℕ) → AllByRecursion (λ c. is_code c ≡ true) (entries j p) };
 
     ghost bounded: { (j : Self) (p : ℕ) → 8 ≤ p → entries j p ≡ [] };
 }

@@ -1,12 +1,10 @@
 // How the rows are made, written and read.
-ghost use Rattle.std.specs.Prelude.{◌≡◌, ◌<◌, ◌≤◌, true, [], ◌∷◌, ◌++◌, length};
+ghost use Rattle.std.specs.Prelude.{◌≡◌, ◌<◌, [], ◌∷◌, ◌++◌, length};
 ghost use Rattle.journals.specs.Calls.{no_entries, with_list};
-ghost use Rattle.journals.specs.Codes.{code_of, is_code};
+ghost use Rattle.journals.specs.Codes.{code_of};
 ghost use Rattle.journals.specs.Rows.{codes, entries_of};
-ghost use Rattle.std.specs.List.{slice_get, AllByRecursion as All};
-ghost use Rattle.std.proofs.Common.{arith};
-ghost use Rattle.journals.specs.RowFacts.{codes_length, each_row, entries_past};
-ghost use Rattle.journals.specs.CodeFacts.{all_coded};
+ghost use Rattle.std.specs.List.{slice_get};
+ghost use Rattle.journals.specs.RowFacts.{entries_known, entries_past, entries_short};
 
 use super::{Row, Rows};
 use crate::entry::Entry;
@@ -31,6 +29,7 @@ impl Row {
         Some(self.entries[place].code())
     }
 
+    #[tactic(auto, using(crate::specs::RowFacts::codes_length))]
     fn push(&mut self, entry: Entry)
         requires { length (codes self.old) < 8 }
         ensures { codes self.new ≡ codes self.old ++ (code_of entry ∷ []) }
@@ -73,9 +72,9 @@ impl Rows {
 impl Journals for Rows {
     ghost entries = { entries_of };
 
-    ghost short = { λ j p. each_row (λ cs. length cs ≤ 8) (omega arith) j.rows (λ row. omega (arith, codes_length row)) p };
+    ghost short = { entries_short };
 
-    ghost known = { λ j p. each_row (All (λ c. is_code c ≡ true)) tt j.rows (λ row. all_coded _) p };
+    ghost known = { entries_known };
 
     ghost bounded = { entries_past };
 

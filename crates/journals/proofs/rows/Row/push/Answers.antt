@@ -4,9 +4,6 @@ use Rattle.journals.specs.Codes.{code_of}
 use Rattle.journals.specs.RowFacts.{codes_length}
 use Rattle.journals.proofs.rows.Row.push.Goals as goal
 
-pub bounds-self-self : goal.bounds-self-self
-bounds-self-self c = omega (arith, c.requires, codes_length c.args.self.now)
-
 pub returns : goal.returns
 returns c =
     let row = c.args.self.now in
