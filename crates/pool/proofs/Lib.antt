@@ -1,2 +1,3 @@
 pub mod Gap
 pub mod PoolFacts
+pub mod SentFacts

@@ -12,7 +12,7 @@ use Rattle.pool.specs.Pool.{links_of, sent_of}
 use Rattle.pool.specs.Sent.{is_on, lawful, link_of}
 use Rattle.pool.specs.declared.Pool.{Pool}
 use Rattle.pool.specs.declared.sent.Sent.{Sent}
-use Rattle.pool.specs.SentFacts.{at_most_112, lawful_push, link_push, other_link, own_first}
+use Rattle.pool.proofs.SentFacts.{at_most_112, lawful_push, link_push, other_link, own_first}
 
 pub sent_length : (pool : Pool) → length (sent_of pool) ≡ pool.len
 sent_length pool = length-take-le pool.len pool.table (omega arith)

@@ -1,3 +1,4 @@
 pub mod Pool
 pub mod Sent
-pub mod SentFacts
+pub mod SentLaws
+pub mod SentOwner

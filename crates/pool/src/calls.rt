@@ -4,8 +4,8 @@ ghost use Rattle.network.specs.Links.{is_link, no_links, with_link};
 ghost use Rattle.network.specs.declared.message.Message.TheVariants.{Prepare};
 ghost use Rattle.pool.specs.Pool.{links_of, sent_of};
 ghost use Rattle.std.specs.List.{slice_get};
-ghost use Rattle.pool.specs.SentFacts.{at_most_2, none_outside};
-ghost use Rattle.std.proofs.Common.{rules, arith};
+ghost use Rattle.pool.specs.SentLaws.{no_other_links, short_links};
+ghost use Rattle.std.proofs.Common.{lit≤};
 
 use crate::sent::{Sent, count_on};
 use crate::{PLACES, Pool};
@@ -39,7 +39,8 @@ impl Pool {
 
     // Every message comes in here: at most two on each of 56 links, so that the 112 places suffice.
     fn push(&mut self, new: Sent)
-        requires { (is_link new.sender new.receiver ≡ true) × (length (links_of self.old new.sender new.receiver) < 2) }
+        requires link { is_link new.sender new.receiver ≡ true }
+        requires room { length (links_of self.old new.sender new.receiver) < 2 }
         ensures { links_of self.new ≡ with_link (links_of self.old) new.sender new.receiver (links_of self.old new.sender new.receiver ++ (new.message ∷ [])) }
     {
         self.table[self.len] = new;
@@ -93,11 +94,11 @@ impl Network for Pool {
 
     ghost links = { links_of };
 
-    ghost deep = { first_of (Prim.search rules, Prim.grind (arith, Self.row.coded.inj)) };
+    ghost deep = { lit≤ tt };
 
-    ghost short = { λ n q p. at_most_2 (sent_of n) n.kept q p };
+    ghost short = { short_links };
 
-    ghost bounded = { λ n q p outside. none_outside (sent_of n) n.kept q p outside };
+    ghost bounded = { no_other_links };
 
     fn link_depth() -> usize {
         Self::DEPTH

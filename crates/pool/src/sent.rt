@@ -1,7 +1,7 @@
 // Messages on their way, and the links that they are on.
 ghost use Rattle.std.specs.Prelude.{◌≡◌, ◌&&◌, length, ◌==◌};
 ghost use Rattle.pool.specs.Sent.{link_of};
-ghost use Rattle.std.proofs.Common.{rules};
+ghost use Rattle.pool.specs.SentOwner.{one_link};
 
 use network::link::Link;
 use network::message::Message;
@@ -19,7 +19,7 @@ impl Owned for Sent {
 
     ghost belongs = { λ s l. (s.sender == l.sender) && s.receiver == l.receiver };
 
-    ghost one_owner = { Prim.search rules };
+    ghost one_owner = { one_link };
 
     fn belongs_to(&self, owner: &Link) -> bool {
         self.sender == owner.sender && self.receiver == owner.receiver

@@ -2,7 +2,7 @@ use Rattle.std.proofs.Common.{sym, ap, ◌∙◌}
 use Rattle.network.specs.declared.message.Message.TheVariants.{Prepare}
 use Rattle.std.specs.List.{slice_get}
 use Rattle.pool.specs.Sent.{link_of}
-use Rattle.pool.specs.SentFacts.{link_next, link_end}
+use Rattle.pool.proofs.SentFacts.{link_next, link_end}
 use Rattle.pool.proofs.Pool.first.Goals as goal
 
 pub returns-in-Some : goal.returns-in-Some

@@ -1,16 +1,15 @@
 use Rattle.std.proofs.Common.{arith}
-use Rattle.std.proofs.lemmas.List.{length-set}
 use Rattle.pool.proofs.PoolFacts.{space, lawful_pushed, links_pushed}
 use Rattle.pool.proofs.Pool.push.Goals as goal
 
 pub bounds-self-self : goal.bounds-self-self
-bounds-self-self c = space c.args.self.now c.args.new c.requires.0 c.requires.1
+bounds-self-self c = space c.args.self.now c.args.new c.requires.link c.requires.room
 
-pub invariant-of-self : goal.invariant-of-self
-invariant-of-self c =
-    let pool = c.args.self.now in
-    let s = c.args.new in
-    (simp length-set pool.whole, (omega (arith, space pool s c.requires.0 c.requires.1), (lawful_pushed pool s c.requires.0 c.requires.1, tt)))
+pub invariant_of-self-clause-within : goal.invariant_of-self-clause-within
+invariant_of-self-clause-within c = omega (arith, space c.args.self.now c.args.new c.requires.link c.requires.room)
+
+pub invariant_of-self-clause-kept : goal.invariant_of-self-clause-kept
+invariant_of-self-clause-kept c = lawful_pushed c.args.self.now c.args.new c.requires.link c.requires.room
 
 pub returns : goal.returns
-returns c = links_pushed c.args.self.now c.args.new c.requires.0 c.requires.1
+returns c = links_pushed c.args.self.now c.args.new c.requires.link c.requires.room

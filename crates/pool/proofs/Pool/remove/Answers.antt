@@ -5,19 +5,23 @@ use Rattle.pool.specs.Pool.{sent_of}
 use Rattle.pool.specs.declared.sent.Sent.{Sent}
 use Rattle.pool.proofs.Gap.{closed, closed_length}
 use Rattle.pool.proofs.PoolFacts.{sent_length}
-use Rattle.pool.specs.SentFacts.{still_lawful}
+use Rattle.pool.proofs.SentFacts.{still_lawful}
 use Rattle.pool.proofs.Pool.remove.Goals as goal
 
-pub invariant-of-self : goal.invariant-of-self
-invariant-of-self c =
+pub invariant_of-self : goal.invariant_of-self
+invariant_of-self c =
     let pool = c.args.self.now in
-    let left = closed pool.table c.args.i pool.len c.requires (omega arith) c.rotate-left.new.self c.rotate-left.ensures.after in
-    (closed_length pool.table c.args.i pool.len c.requires (omega arith) c.rotate-left.new.self c.rotate-left.ensures.len ∙ pool.whole, (omega arith, (rw left (still_lawful (sent_of pool) c.args.i (record { sender = 0; receiver = 0; message = Prepare }) (omega (arith, sent_length pool)) pool.kept), tt)))
+    let left = closed pool.table c.args.i pool.len c.requires (omega arith) c.rotate_left.new.self c.rotate_left.ensures.after in
+    record {
+      whole = closed_length pool.table c.args.i pool.len c.requires (omega arith) c.rotate_left.new.self c.rotate_left.ensures.len ∙ pool.whole;
+      within = omega arith;
+      kept = rw left (still_lawful (sent_of pool) c.args.i (record { sender = 0; receiver = 0; message = Prepare }) (omega (arith, sent_length pool)) pool.kept);
+    }
 
 pub returns : goal.returns
 returns c =
     let pool = c.args.self.now in
     record {
       value = ap (λ (s : Sent). s.message) (sym (get_or-take pool.len pool.table c.args.i (record { sender = 0; receiver = 0; message = Prepare }) c.requires));
-      after = closed pool.table c.args.i pool.len c.requires (omega arith) c.rotate-left.new.self c.rotate-left.ensures.after;
+      after = closed pool.table c.args.i pool.len c.requires (omega arith) c.rotate_left.new.self c.rotate_left.ensures.after;
     }

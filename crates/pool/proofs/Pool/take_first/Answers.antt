@@ -3,7 +3,7 @@ use Rattle.network.specs.declared.message.Message.TheVariants.{Prepare}
 use Rattle.std.specs.List.{slice_get}
 use Rattle.pool.specs.Pool.{sent_of}
 use Rattle.pool.proofs.PoolFacts.{links_left}
-use Rattle.pool.specs.SentFacts.{link_next, link_end}
+use Rattle.pool.proofs.SentFacts.{link_next, link_end}
 use Rattle.pool.proofs.Pool.take_first.Goals as goal
 
 pub returns-in-Some : goal.returns-in-Some

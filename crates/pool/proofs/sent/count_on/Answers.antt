@@ -1,6 +1,6 @@
 use Rattle.std.proofs.Common.{length, sym, ap, arith}
 use Rattle.network.specs.declared.message.Message.TheVariants.{Prepare}
-use Rattle.pool.specs.SentFacts.{link_next, link_end}
+use Rattle.pool.proofs.SentFacts.{link_next, link_end}
 use Rattle.pool.proofs.sent.count_on.Goals as goal
 
 pub loop-i-preserved : goal.loop-i-preserved
@@ -12,4 +12,4 @@ loop-i-preserved c =
 pub returns : goal.returns
 returns c =
     let link = c.args.link in
-    omega (arith, ap length (link_end link.sender link.receiver c.args.sent.now c.loop-i.start (sym c.in-default.ensures.answer)), c.loop-i.invariant.0)
+    omega (arith, ap length (link_end link.sender link.receiver c.args.sent.now c.loop-i.start (sym c.in_default.ensures.answer)), c.loop-i.invariant.0)

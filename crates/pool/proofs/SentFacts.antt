@@ -1,16 +1,14 @@
 -- What lists of sent messages tell, when one more is sent, and when the first of a link is removed.
-use Rattle.std.specs.Prelude.{◌≡◌, ℕ, zero, suc, ◌+◌, ◌<◌, ◌≤◌, Bool, true, false, cond, not, ◌&&◌, ◌||◌, List, [], ◌∷◌, ◌++◌, map, length, get_or, take, drop, Some, None, filter, ◌==◌, nat_le, nat_lt, slice_index_or, refl}
-use Rattle.std.proofs.Common.{⊎_elim, sym, ◌∙◌, arith}
+use Rattle.std.specs.Prelude.{◌≡◌, ℕ, zero, suc, ◌+◌, ◌<◌, ◌≤◌, Bool, true, false, cond, not, ◌&&◌, ◌||◌, List, [], ◌∷◌, ◌++◌, map, length, get_or, take, drop, Some, None, filter, ◌==◌, nat_le, slice_index_or, refl}
+use Rattle.std.proofs.Common.{sym, ◌∙◌, arith}
 use Rattle.std.proofs.Math.Path.{ap}
 use Rattle.std.proofs.lemmas.List.Elements.{filter-append}
 use Rattle.std.proofs.ByRecursion.{All-append, All-take, All-drop, All-push, All-weaker}
 use Rattle.std.proofs.lemmas.List.{length-append, length-map, map-append, append-nil, take-append-drop, drop_more, nil_from_length}
-use Rattle.std.proofs.lemmas.Bool.{and_parts, and_from, leb-true, le-leb, ltb-true, eqb-true, cases_Bool}
-use Rattle.std.proofs.lemmas.Bool.Decides.{nat_tests}
-use Rattle.std.specs.List.{AllByRecursion as All}
+use Rattle.std.proofs.lemmas.Bool.{and_parts, and_from, le-leb, eqb-true}
+use Rattle.std.specs.List.{AllByRecursion}
 use Rattle.network.specs.Links.{is_link}
 use Rattle.network.specs.declared.link.Link.{Link}
-use Rattle.network.specs.declared.message.Message.{Message}
 use Rattle.network.specs.declared.message.Message.TheVariants.{Prepare}
 use Rattle.owned.proofs.Crowd.{owned_by, crowd}
 use Rattle.owned.proofs.EveryFacts.{decides_every, decides_below}
@@ -18,10 +16,8 @@ use Rattle.owned.proofs.Kept.{next_some, next_none}
 use Rattle.owned.specs.Every.{every, every_below}
 use Rattle.owned.specs.Search.{next_of}
 use Rattle.pool.specs.Sent.{is_on, link_of, lawful}
+use Rattle.pool.specs.SentLaws.{at_most_2, message_in, on_ends, on_links}
 use Rattle.pool.specs.declared.sent.Sent.{Sent}
-
-abbrev message_in : Sent → Message
-message_in s = s.message
 
 -- what the search tells of the messages that are left
 module _ (q p : ℕ) (sent : List Sent) (start : ℕ) where
@@ -36,14 +32,7 @@ link_push q p sent s =
     ap (map message_in) (filter-append (is_on q p) sent (s ∷ [])) ∙ map-append message_in (filter (is_on q p) sent) (cond (is_on q p s) (s ∷ []) [])
     ∙ elim (is_on q p s) as (λ b. link_of q p sent ++ map message_in (cond b (s ∷ []) []) ≡ cond b (link_of q p sent ++ (s.message ∷ [])) (link_of q p sent)) [ true ↦ refl | false ↦ append-nil _ ]
 
-on_ends : (q p : ℕ) → is_link q p ≡ true → (q < 8) × (p < 8)
-unfolding is_link
-on_ends q p link =
-    let a = and_parts (nat_lt q 8) (nat_lt p 8 && not (q == p)) link in
-    let b = and_parts (nat_lt p 8) (not (q == p)) a.1 in
-    (ltb-true q 8 a.0, ltb-true p 8 b.0)
-
-from_parts : (sent : List Sent) → All (λ s. is_link s.sender s.receiver ≡ true) sent → ((q p : ℕ) → length (link_of q p sent) ≤ 2) → lawful sent ≡ true
+from_parts : (sent : List Sent) → AllByRecursion (λ s. is_link s.sender s.receiver ≡ true) sent → ((q p : ℕ) → length (link_of q p sent) ≤ 2) → lawful sent ≡ true
 unfolding lawful
 from_parts sent links short =
     and_from (every (λ s. is_link s.sender s.receiver) sent) (every_below (λ q. every_below (λ p. nat_le (length (link_of q p sent)) 2) 8) 8)
@@ -65,15 +54,15 @@ pairs_below (suc q) = from_ledger q 8 ++ pairs_below q
 abbrev pairs : List Link
 pairs = filter (λ l. is_link l.sender l.receiver) (pairs_below 8)
 
-all_links : All (λ l. is_link l.sender l.receiver ≡ true) pairs
+all_links : AllByRecursion (λ l. is_link l.sender l.receiver ≡ true) pairs
 unfolding is_link
 all_links = (decides_every (λ l. is_link l.sender l.receiver) pairs).0 refl
 
 covered : (s : Sent) → is_link s.sender s.receiver ≡ true → owned_by on pairs s ≡ true
 unfolding is_link
 covered s link =
-    let at-sender = (decides_below (λ q. every_below (seen q) 8) 8).0 refl s.sender (on_ends s.sender s.receiver link).0 in
-    let here = (decides_below (seen s.sender) 8).0 at-sender s.receiver (on_ends s.sender s.receiver link).1 in
+    let at_sender = (decides_below (λ q. every_below (seen q) 8) 8).0 refl s.sender (on_ends s.sender s.receiver link).0 in
+    let here = (decides_below (seen s.sender) 8).0 at_sender s.receiver (on_ends s.sender s.receiver link).1 in
     rw link at here
   where
     -- a pair of ledgers is no link, or is among the 56
@@ -81,36 +70,9 @@ covered s link =
     seen q p = not (is_link q p) || owned_by on pairs (record { sender = q; receiver = p; message = Prepare })
 
 module _ (sent : List Sent) (law : lawful sent ≡ true) where
-  parts : (every (λ s. is_link s.sender s.receiver) sent ≡ true) × (every_below (λ q. every_below (λ p. nat_le (length (link_of q p sent)) 2) 8) 8 ≡ true)
-  unfolding lawful
-  parts = and_parts (every (λ s. is_link s.sender s.receiver) sent) (every_below (λ q. every_below (λ p. nat_le (length (link_of q p sent)) 2) 8) 8) law
-
-  pub on_links : All (λ s. is_link s.sender s.receiver ≡ true) sent
-  on_links = (decides_every (λ s. is_link s.sender s.receiver) sent).0 parts.0
-
-  few : (q p : ℕ) → q < 8 → p < 8 → length (link_of q p sent) ≤ 2
-  few q p q8 p8 =
-      let row = (decides_below (λ a. every_below (λ b. nat_le (length (link_of a b sent)) 2) 8) 8).0 parts.1 q q8 in
-      leb-true (length (link_of q p sent)) 2 ((decides_below (λ b. nat_le (length (link_of q b sent)) 2) 8).0 row p p8)
-
-  pub none_outside : (q p : ℕ) → is_link q p ≡ false → link_of q p sent ≡ []
-  unfolding is_link
-  none_outside q p outside =
-      ap (map message_in) (none_kept sent (All-weaker (λ s. is_link s.sender s.receiver ≡ true) (λ s. is_on q p s ≡ false) (λ s e. other s e) sent on_links))
-    where
-      other : (s : Sent) → is_link s.sender s.receiver ≡ true → is_on q p s ≡ false
-      other s e = grind (arith, nat_tests)
-
-      none_kept : (xs : List Sent) → All (λ s. is_on q p s ≡ false) xs → filter (is_on q p) xs ≡ []
-      none_kept [] tt = refl
-      none_kept (x ∷ xs) h = rw h.0 (none_kept xs h.1)
-
-  pub at_most_2 : (q p : ℕ) → length (link_of q p sent) ≤ 2
-  at_most_2 q p = ⊎_elim (λ link. let ends = on_ends q p link in few q p ends.0 ends.1) (λ outside. omega (arith, ap length (none_outside q p outside))) (cases_Bool (is_link q p))
-
   pub lawful_push : (s : Sent) → is_link s.sender s.receiver ≡ true → length (link_of s.sender s.receiver sent) < 2 → lawful (sent ++ (s ∷ [])) ≡ true
   lawful_push s link room =
-      from_parts (sent ++ (s ∷ [])) (All-push (λ x. is_link x.sender x.receiver ≡ true) sent s on_links link)
+      from_parts (sent ++ (s ∷ [])) (All-push (λ x. is_link x.sender x.receiver ≡ true) sent s (on_links sent law) link)
       (λ q p. still q p (is_on q p s) refl)
     where
       still : (q p : ℕ) (own : Bool) → is_on q p s ≡ own → length (link_of q p (sent ++ (s ∷ []))) ≤ 2
@@ -118,12 +80,12 @@ module _ (sent : List Sent) (law : lawful sent ≡ true) where
           let ends = and_parts (s.sender == q) (s.receiver == p) own in
           let same : link_of s.sender s.receiver sent ≡ link_of q p sent = ap (λ a. link_of a s.receiver sent) (eqb-true s.sender q ends.0) ∙ ap (λ b. link_of q b sent) (eqb-true s.receiver p ends.1) in
           rw (link_push q p sent s, own) (omega (arith, length-append (link_of q p sent) (s.message ∷ []), ap length same))
-      still q p false other = rw (link_push q p sent s, other) (at_most_2 q p)
+      still q p false other = rw (link_push q p sent s, other) (at_most_2 sent law q p)
 
   -- two messages on each of 56 links
   pub at_most_112 : length sent ≤ 112
   unfolding is_link
-  at_most_112 = crowd on pairs 2 sent (All-weaker (λ s. is_link s.sender s.receiver ≡ true) (λ s. owned_by on pairs s ≡ true) covered sent on_links) (All-weaker (λ l. is_link l.sender l.receiver ≡ true) (λ l. length (filter (λ s. on s l) sent) ≤ 2) (λ l e. rw length-map at (at_most_2 l.sender l.receiver)) pairs all_links)
+  at_most_112 = crowd on pairs 2 sent (All-weaker (λ s. is_link s.sender s.receiver ≡ true) (λ s. owned_by on pairs s ≡ true) covered sent (on_links sent law)) (All-weaker (λ l. is_link l.sender l.receiver ≡ true) (λ l. length (filter (λ s. on s l) sent) ≤ 2) (λ l e. rw length-map at (at_most_2 sent law l.sender l.receiver)) pairs all_links)
 
 -- the list without the message at i
 module _ (sent : List Sent) (i : ℕ) (d : Sent) (within : i < length sent) where
