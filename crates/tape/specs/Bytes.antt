@@ -1,5 +1,5 @@
 -- A tape as bytes: four for each record, its ledger, its code, and a trailer of 16 bits with the low byte first.
-use Rattle.std.specs.Prelude.{ℕ, ◌+◌, ◌-◌, ◌*◌, ◌/◌, ◌%◌, Bool, cond, ◌&&◌, List, [], ◌∷◌, ◌++◌, length, drop, Some, None, Ok, Err, Option, Result, ◌==◌, nat_le, nat_lt}
+use Rattle.std.specs.Prelude.{ℕ, ◌-◌, ◌*◌, ◌/◌, ◌%◌, Bool, cond, ◌&&◌, List, [], ◌∷◌, ◌++◌, length, drop, Some, None, Ok, Err, Option, Result, ◌==◌, nat_le, nat_lt}
 use Rattle.journals.specs.Calls.{check}
 use Rattle.journals.specs.Codes.{is_code, is_ledger}
 use Rattle.tape.specs.Records.{count_of, latest}

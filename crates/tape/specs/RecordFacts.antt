@@ -6,7 +6,7 @@ use Rattle.std.proofs.ByRecursion.{All-get_or, All-push, all_kept_by, All-map, A
 use Rattle.std.proofs.lemmas.List.{length-append, length-map, map-append, append-nil, get_or_at}
 use Rattle.std.proofs.lemmas.Bool.{and_parts, and_from, leb-true, le-leb, eq-eqb, cases_lt}
 use Rattle.std.proofs.lemmas.Bool.Decides.{nat_tests}
-use Rattle.std.specs.List.{AllByRecursion as All, slice_get}
+use Rattle.std.specs.List.{AllByRecursion, slice_get}
 use Rattle.owned.proofs.Crowd.{owned_by, crowd}
 use Rattle.owned.proofs.Kept.{next_some, next_none}
 use Rattle.owned.proofs.EveryFacts.{decides_every, decides_below}
@@ -15,6 +15,9 @@ use Rattle.owned.specs.Search.{next_of}
 use Rattle.journals.specs.Codes.{is_code, is_ledger}
 use Rattle.tape.specs.Records.{is_of, codes_of, count_of, latest_from, latest, is_record, lawful, track_of}
 use Rattle.tape.specs.declared.records.Record.{Record}
+
+pub one_ledger : (r : Record) (a b : ℕ) → is_of a r ≡ true → is_of b r ≡ true → a ≡ b
+one_ledger r a b own other = grind (arith, nat_tests)
 
 module _ (p : ℕ) (rs : List Record) (r : Record) where
   kept_push : filter (is_of p) (rs ++ (r ∷ [])) ≡ filter (is_of p) rs ++ cond (is_of p r) (r ∷ []) []
@@ -59,13 +62,13 @@ module _ (rs : List Record) (law : lawful rs ≡ true) where
   parts : (every is_record rs ≡ true) × (every_below (λ p. nat_le (count_of p rs) 8) 8 ≡ true)
   parts = and_parts (every is_record rs) (every_below (λ p. nat_le (count_of p rs) 8) 8) law
 
-  known : All (λ r. is_record r ≡ true) rs
+  known : AllByRecursion (λ r. is_record r ≡ true) rs
   known = (decides_every is_record rs).0 parts.0
 
   pub few : (p : ℕ) → p < 8 → count_of p rs ≤ 8
   few p below = leb-true (count_of p rs) 8 ((decides_below (λ q. nat_le (count_of q rs) 8) 8).0 parts.1 p below)
 
-  pub codes_known : (p : ℕ) → All (λ c. is_code c ≡ true) (codes_of p rs)
+  pub codes_known : (p : ℕ) → AllByRecursion (λ c. is_code c ≡ true) (codes_of p rs)
   codes_known p =
       All-map (λ c. is_code c ≡ true) (λ r. r.code) (filter (is_of p) rs)
       (all_kept_by (is_of p) (λ r. is_code r.code ≡ true) rs (All-weaker (λ r. is_record r ≡ true) (λ r. is_code r.code ≡ true) (λ r e. (and_parts (is_ledger r.ledger) (is_code r.code) e).1) rs known))
@@ -85,7 +88,7 @@ module _ (rs : List Record) (law : lawful rs ≡ true) where
       other : (r : Record) → is_ledger r.ledger ≡ true → is_of p r ≡ false
       other r e = grind (arith, nat_tests)
 
-      none_kept : (xs : List Record) → All (λ r. is_of p r ≡ false) xs → filter (is_of p) xs ≡ []
+      none_kept : (xs : List Record) → AllByRecursion (λ r. is_of p r ≡ false) xs → filter (is_of p) xs ≡ []
       none_kept [] tt = refl
       none_kept (x ∷ xs) h = rw h.0 (none_kept xs h.1)
 

@@ -1,8 +1,8 @@
 // Records of what the ledgers wrote, and what they tell of one ledger.
 ghost use Rattle.std.specs.Prelude.{◌≡◌, ◌==◌};
+ghost use Rattle.tape.specs.RecordFacts.{one_ledger};
 ghost use Rattle.tape.specs.Records.{codes_of};
 ghost use Rattle.std.specs.List.{slice_get};
-ghost use Rattle.std.proofs.Common.{rules};
 
 use owned::{Owned, next_of};
 
@@ -16,9 +16,9 @@ pub struct Record {
 impl Owned for Record {
     type Owner = u8;
 
-    ghost belongs = { λ r p. (r.ledger == p) };
+    ghost belongs = { λ r p. r.ledger == p };
 
-    ghost one_owner = { Prim.search rules };
+    ghost one_owner = { one_ledger };
 
     fn belongs_to(&self, owner: &u8) -> bool {
         self.ledger == *owner

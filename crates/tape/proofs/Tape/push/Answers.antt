@@ -7,11 +7,16 @@ use Rattle.tape.proofs.Tape.push.Goals as goal
 pub bounds-self-self : goal.bounds-self-self
 bounds-self-self c = space c.args.self.now c.args.new c.requires.0 c.requires.1
 
-pub invariant-of-self : goal.invariant-of-self
-invariant-of-self c =
+pub invariant_of-self : goal.invariant_of-self
+invariant_of-self c =
     let t = c.args.self.now in
     let r = c.args.new in
-    ((simp length-set t.whole.0, simp length-set t.whole.1), (omega (arith, space t r c.requires.0 c.requires.1), (still_lawful t r c.requires.0 c.requires.1, (still_tracked t r c.requires.0 c.requires.1, tt))))
+    record {
+      whole = (simp length-set t.whole.0, simp length-set t.whole.1);
+      within = omega (arith, space t r c.requires.0 c.requires.1);
+      kept = still_lawful t r c.requires.0 c.requires.1;
+      tracked = still_tracked t r c.requires.0 c.requires.1;
+    }
 
 pub returns : goal.returns
 returns c =

@@ -10,6 +10,6 @@ returns c =
     let same : c.args.low + c.args.high * 256 ≡ trailer (records_of t) c.args.ledger = cc in
     let right = right_trailer (entries_of t) (records_of t) c.args.ledger c.args.code c.args.low c.args.high refl c.if-ledger-ge-LEDGERS.false (omega arith) same in
     record {
-      answer = c.is-ok.ensures.value ∙ ap is_ok c.append.ensures.answer ∙ right;
-      after = rw c.is-ok.ensures.value c.append.ensures.records;
+      answer = c.is_ok.ensures.value ∙ ap is_ok c.append.ensures.answer ∙ right;
+      after = rw c.is_ok.ensures.value c.append.ensures.records;
     }

@@ -17,8 +17,8 @@ both p q = cc
 four_more : (i : ℕ) → 4 * (i + 1) ≡ 4 * i + 4
 four_more i = omega arith
 
-pub next-trailer-requires : goal.next-trailer-requires
-next-trailer-requires c = ledger_here c.args.self.now c.loop-i.i (record { ledger = 0; code = 0 }) c.loop-i-test.true
+pub next_trailer-requires : goal.next_trailer-requires
+next_trailer-requires c = ledger_here c.args.self.now c.loop-i.i (record { ledger = 0; code = 0 }) c.loop-i-test.true
 
 pub push-requires : goal.push-requires
 push-requires c =
@@ -31,12 +31,12 @@ loop-i-preserved c =
     let i = c.loop-i.i in
     let r = get_or t.records i (record { ledger = 0; code = 0 }) in
     let more = more_here t i (record { ledger = 0; code = 0 }) c.loop-i-test.true in
-    let trailed = c.next-trailer.ensures ∙ ap (λ rs. trailer rs r.ledger) c.loop-i.invariant.0 in
+    let trailed = c.next_trailer.ensures ∙ ap (λ rs. trailer rs r.ledger) c.loop-i.invariant.0 in
     let bytes = ap (λ n. r.ledger ∷ (r.code ∷ (n % 256 ∷ (n / 256 ∷ [])))) trailed in
-    let front : take (4 * i + 4) c.lay-record.new.buffer ≡ laid (take i (records_of t)) ++ record_bytes (take i (records_of t)) r = c.lay-record.ensures.front ∙ both c.loop-i.invariant.1 bytes in (
+    let front : take (4 * i + 4) c.lay_record.new.buffer ≡ laid (take i (records_of t)) ++ record_bytes (take i (records_of t)) r = c.lay_record.ensures.front ∙ both c.loop-i.invariant.1 bytes in (
       c.push.ensures.records ∙ ap (λ rs. rs ++ (r ∷ [])) c.loop-i.invariant.0 ∙ sym more,
       rw (four_more i) (front ∙ sym (laid_push (take i (records_of t)) r) ∙ ap laid (sym more)),
-      rw (four_more i) (c.lay-record.ensures.rest ∙ drop_further c.loop-i.buffer c.args.buffer.now (4 * i) 4 c.loop-i.invariant.2),
+      rw (four_more i) (c.lay_record.ensures.rest ∙ drop_further c.loop-i.buffer c.args.buffer.now (4 * i) 4 c.loop-i.invariant.2),
     )
 
 pub returns : goal.returns

@@ -15,5 +15,5 @@ loop-i-preserved c =
 
 pub returns : goal.returns
 returns c =
-    let end = codes_end c.args.ledger c.args.records.now c.loop-i.start (sym c.in-default.ensures.answer) in
+    let end = codes_end c.args.ledger c.args.records.now c.loop-i.start (sym c.in_default.ensures.answer) in
     sym (ap (λ codes. slice_get codes c.loop-i.left) end) ∙ c.loop-i.invariant
