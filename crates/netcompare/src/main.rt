@@ -29,8 +29,8 @@ struct Outcome {
     answer: usize,
 }
 
-fn of_message(res: Result<Message, NetworkFault>) -> Outcome {
-    match res {
+fn of_message(returned: Result<Message, NetworkFault>) -> Outcome {
+    match returned {
         Ok(message) => Outcome {
             refusal: 0,
             answer: message.kind() as usize,
@@ -42,8 +42,8 @@ fn of_message(res: Result<Message, NetworkFault>) -> Outcome {
     }
 }
 
-fn of_number(res: Result<usize, NetworkFault>) -> Outcome {
-    match res {
+fn of_number(returned: Result<usize, NetworkFault>) -> Outcome {
+    match returned {
         Ok(answer) => Outcome { refusal: 0, answer },
         Err(fault) => Outcome {
             refusal: fault.number(),
@@ -52,8 +52,8 @@ fn of_number(res: Result<usize, NetworkFault>) -> Outcome {
     }
 }
 
-fn of_nothing(res: Result<(), NetworkFault>) -> Outcome {
-    match res {
+fn of_nothing(returned: Result<(), NetworkFault>) -> Outcome {
+    match returned {
         Ok(()) => Outcome {
             refusal: 0,
             answer: 0,
