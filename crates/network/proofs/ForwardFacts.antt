@@ -27,10 +27,10 @@ module _ (depth : ℕ) (L : Links) (from to : Link) (n left : ℕ) (more : n ≡
 both : {a b c d : List Message} → a ≡ b → c ≡ d → a ++ c ≡ b ++ d
 both p q = cc
 
-first_of : (f g : NetworkFault) (link : Bool) (ms : List Message) (m : Message) → cond link (ok_or (slice_get ms 0) f) (Err g) ≡ Ok m → ms ≡ m ∷ drop 1 ms
-first_of f g true [] m e = absurd (let z : ◌≡◌ {A = ℕ} 0 1 = cc in omega arith)
-first_of f g true (x ∷ ms) m e = let same : x ≡ m = cc in ap (λ y. y ∷ ms) same
-first_of f g false ms m e = absurd (let z : ◌≡◌ {A = ℕ} 0 1 = cc in omega arith)
+first_and_rest : (f g : NetworkFault) (link : Bool) (ms : List Message) (m : Message) → cond link (ok_or (slice_get ms 0) f) (Err g) ≡ Ok m → ms ≡ m ∷ drop 1 ms
+first_and_rest f g true [] m e = absurd (let z : ◌≡◌ {A = ℕ} 0 1 = cc in omega arith)
+first_and_rest f g true (x ∷ ms) m e = let same : x ≡ m = cc in ap (λ y. y ∷ ms) same
+first_and_rest f g false ms m e = absurd (let z : ◌≡◌ {A = ℕ} 0 1 = cc in omega arith)
 
 module _ (depth : ℕ) (from to : Link) where
   -- the message that was looked at, taken from its link after it was put on the other
@@ -47,7 +47,7 @@ module _ (depth : ℕ) (from to : Link) where
       let target = with_other P a b q p (drop 1 (P a b)) (λ e. apart (sym e.0, sym e.1)) ∙ with_own L q p (L q p ++ (m ∷ [])) in
       let source = with_own P a b (drop 1 (P a b)) ∙ ap (drop 1) same in
       let whole = ap (λ (r : Result Unit NetworkFault). take_after (cond (is_ok r) P L) a b) put ∙ taken in
-      both (ap (λ (M : Links). M q p) whole ∙ target) (ap (λ (M : Links). M a b) whole ∙ source) ∙ append_assoc (L q p) (m ∷ []) (drop 1 (L a b)) ∙ ap (λ ms. L q p ++ ms) (sym (first_of (refused a b NothingThere) (refused a b UnknownLedger) (is_link a b) (L a b) m looked))
+      both (ap (λ (M : Links). M q p) whole ∙ target) (ap (λ (M : Links). M a b) whole ∙ source) ∙ append_assoc (L q p) (m ∷ []) (drop 1 (L a b)) ∙ ap (λ ms. L q p ++ ms) (sym (first_and_rest (refused a b NothingThere) (refused a b UnknownLedger) (is_link a b) (L a b) m looked))
 
   one_together : (L : Links) → Together L (one_after depth L from to) from to
   one_together L apart = by_look (look_answer L from.sender from.receiver) refl (put_answer depth L to.sender to.receiver) refl

@@ -52,8 +52,8 @@ link_left sent q p i found a b = by_test (eqb q a && eqb p b) refl
     by_test : (own : Bool) → (eqb q a && eqb p b) ≡ own → link_of a b (take i sent ++ drop (i + 1) sent) ≡ cond own (drop 1 (link_of a b sent)) (link_of a b sent)
     by_test true own =
         let same = and_parts (eqb q a) (eqb p b) own in
-        let found_Here = ap (λ x. next_of (is_on x b) sent 0) (sym (eqb-true q a same.0)) ∙ ap (λ y. next_of (is_on q y) sent 0) (sym (eqb-true p b same.1)) ∙ found in
-        own_first sent i blank next.within a b found_Here
+        let found_here = ap (λ x. next_of (is_on x b) sent 0) (sym (eqb-true q a same.0)) ∙ ap (λ y. next_of (is_on q y) sent 0) (sym (eqb-true p b same.1)) ∙ found in
+        own_first sent i blank next.within a b found_here
     by_test false other = other_link sent i blank next.within a b (elsewhere other)
 
 -- the first message of a link is taken out

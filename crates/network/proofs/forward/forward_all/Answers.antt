@@ -1,4 +1,4 @@
-use Rattle.std.proofs.Common.{◌≡◌, suc, ◌+◌, ◌-◌, Err, sym, ap, ◌∙◌, arith}
+use Rattle.std.proofs.Common.{◌≡◌, suc, ◌+◌, ◌-◌, Ok, Err, sym, ap, ◌∙◌, arith}
 use Rattle.std.proofs.lemmas.Result.{err_from_is_err_and}
 use Rattle.network.specs.Forward.{all_after, all_answer}
 use Rattle.network.proofs.ForwardFacts.{all_together, stopped_answer, stopped_after, went_on_answer, went_on_after}
@@ -11,7 +11,7 @@ returns-in_err-forward g c =
     let fault = c.in_err-forward.field-0.0 in
     let i = c.loop-moved._moved in
     let more : c.args.most - c.loop-moved._moved ≡ suc (c.args.most - (c.loop-moved._moved + 1)) = omega arith in
-    let one = sym c.in_err-forward.ensures.answer in
+    let one = sym {a = Err fault} c.in_err-forward.ensures.answer in
     let exit = err_from_is_err_and c.from_residual.result c.from_residual.ensures.1 in
     let after = c.forward.ensures.after ∙ stopped_after depth L c.args.from c.args.to (c.args.most - i) (c.args.most - (i + 1)) more fault one ∙ c.loop-moved.invariant.1 in
     record {
@@ -27,7 +27,7 @@ loop-moved-preserved g c =
     let i = c.loop-moved._moved in
     let left = c.args.most - (c.loop-moved._moved + 1) in
     let more : c.args.most - c.loop-moved._moved ≡ suc (c.args.most - (c.loop-moved._moved + 1)) = omega arith in
-    let one = sym c.in_ok-forward.ensures.answer in
+    let one = sym {a = Ok tt} c.in_ok-forward.ensures.answer in
     let after = c.forward.ensures.after in (
       ap (λ M. all_answer left depth M c.args.from c.args.to) after ∙ sym (went_on_answer depth L c.args.from c.args.to (c.args.most - i) left more one) ∙ c.loop-moved.invariant.0,
       ap (λ M. all_after left depth M c.args.from c.args.to) after ∙ sym (went_on_after depth L c.args.from c.args.to (c.args.most - i) left more one) ∙ c.loop-moved.invariant.1,
