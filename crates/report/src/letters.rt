@@ -20,7 +20,7 @@ pub fn push_letters<J: Journals>(
     journals: &J,
     ledger: u8,
 ) -> Result<(), AllocError>
-    ensures { OnOk result (string_bytes out.new ≡ string_bytes out.old ++ letters (entries journals.now ledger)) }
+    ensures { OnOk result (string_bytes out.new ≡ string_bytes out.old ++ letters (J.entries journals.now ledger)) }
 {
     let mut place = 0;
     while let Ok(code) = journals.read(ledger, place) {

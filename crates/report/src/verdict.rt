@@ -46,7 +46,7 @@ fn whole_tape(heap: Global, tape: &Tape) -> Result<String, AllocError>
 // Adds the line of one ledger, whose number is one digit.
 fn push_ledger<J: Journals>(out: &mut String, journals: &J, ledger: u8) -> Result<(), AllocError>
     requires { ledger < 10 }
-    ensures { OnOk result (string_bytes out.new ≡ string_bytes out.old ++ ledger_line (entries journals.now) ledger) }
+    ensures { OnOk result (string_bytes out.new ≡ string_bytes out.old ++ ledger_line (J.entries journals.now) ledger) }
 {
     out.push_str("L ")?;
     out.push((b'0' + ledger) as char)?;

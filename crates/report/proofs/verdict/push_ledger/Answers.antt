@@ -9,10 +9,10 @@ line a b c d e f letters digit pb pc pd pe pf = rw (pf, pe, pd, pc, pb) (simp ap
 pub returns : goal.returns
 unfolding encode
 returns g c =
-    let digit = c.in-ok-push.ensures in
+    let digit = c.in_ok-push.ensures in
     line _ _ _ _ _ _ _ (48 + c.args.ledger)
-    c.in-ok-push-str.ensures.bytes
-    (digit.bytes ∙ ap (λ bs. string_bytes c.push-str.new.self ++ bs) (digit.ascii (omega arith)))
-    c.in-ok-push-2.ensures.bytes
-    c.in-ok-push-letters.ensures
-    c.in-ok-push-3.ensures.bytes
+    c.in_ok-push_str.ensures.bytes
+    (digit.bytes ∙ ap (λ bs. string_bytes c.push_str.new.self ++ bs) (digit.ascii (omega arith)))
+    c.in_ok-push-2.ensures.bytes
+    c.in_ok-push_letters.ensures
+    c.in_ok-push-3.ensures.bytes
