@@ -64,7 +64,7 @@ timely_new n votes = record {
 
 -- what holds as long as no expiry was early
 abbrev Before : ℕ → List Vote → Bool → State → Type 0
-Before n votes early-yet s = Wanted n votes s × Rounds s × Posted n s × (early-yet ≡ false → Timely n s)
+Before n votes early_yet s = Wanted n votes s × Rounds s × Posted n s × (early_yet ≡ false → Timely n s)
 
 module _ (depth n : ℕ) (votes : List Vote) (many : 2 ≤ n) (few : n ≤ 8) (calls : List Call) where
   before_run : Before n votes (happened early depth (new n votes) calls) (after_all depth (new n votes) calls)

@@ -115,10 +115,10 @@ module _ {n : ℕ} {votes : List Vote} {s s' : State} {p : ℕ} {input : Input} 
 
 -- what holds of a new floor and is kept by every such move holds at the end of every run
 module _ (depth n : ℕ) (votes : List Vote) (many : 2 ≤ n) (few : n ≤ 8) (event : ℕ → State → Call → Bool) (I : Bool → State → Type 0)
-    (no-event : (s : State) (call : Call) → call_after depth s call ≡ s → taken depth s call ≡ false → event depth s call ≡ false)
+    (no_event : (s : State) (call : Call) → call_after depth s call ≡ s → taken depth s call ≡ false → event depth s call ≡ false)
     (step : (happens : Bool) (s : State) (call : Call) (p : ℕ) (input : Input) (r : Response) → Cause call p input → Turn n votes s (call_after depth s call) p input r → taken depth s call ≡ true → I happens s → I (happens || event depth s call) (call_after depth s call)) where
   pub turns_with : I false (new n votes) → (calls : List Call) → I (happened event depth (new n votes) calls) (after_all depth (new n votes) calls)
-  turns_with start calls = (every_run depth n votes few event (λ happens s. AllEach n votes s × I happens s) no-event one (each_new n votes many few, start) calls).1.1
+  turns_with start calls = (every_run depth n votes few event (λ happens s. AllEach n votes s × I happens s) no_event one (each_new n votes many few, start) calls).1.1
     where
       one : (happens : Bool) (s : State) (call : Call) (p : ℕ) (input : Input) (r : Response) → Sound n votes s → Cause call p input → Move s p input r (call_after depth s call) → taken depth s call ≡ true → AllEach n votes s × I happens s → AllEach n votes (call_after depth s call) × I (happens || event depth s call) (call_after depth s call)
       one happens s call p input r sound cause move answer (each, holds) =

@@ -133,8 +133,8 @@ module _ (n : ℕ) (votes : List Vote) (s : State) (many : 2 ≤ n) (few : n ≤
         told : (d : Decision) → is_some (held (row_of s w).stage) ≡ true → is d (held (row_of s w).stage) ≡ true → ⊥
         told d some holds =
             let apart : p ≢ w = λ (e : p ≡ w). both_ways _ (rw e at undecided) some in
-            let told-p = spread w d p known apart (and_from _ _ runs_now (passed_all (row_of s w).stage d p (rests_at w kw runs_now) holds)) in
-            unsettled d (row_of s p) (s.entries p) running undecided (rw (nothing w p kw known (λ e. apart (sym e))) at told-p)
+            let told_p = spread w d p known apart (and_from _ _ runs_now (passed_all (row_of s w).stage d p (rests_at w kw runs_now) holds)) in
+            unsettled d (row_of s p) (s.entries p) running undecided (rw (nothing w p kw known (λ e. apart (sym e))) at told_p)
 
     -- the coordinator lacks no vote
     coordinator : runs (row_of s 0).status ≡ true → ⊥

@@ -248,9 +248,9 @@ pub data Then (who : Member) (row : Row) (r : Response) : Type 0 where
 
 -- the stage is as it was where it is of none of the new kinds
 pub then_stays : {who : Member} {row : Row} {r : Response} (f : Stage → Bool) → ((stage : Stage) → leads stage ≡ true → f stage ≡ false) → ((d : Decision) (next : ℕ) → f (Announcing d next) ≡ false) → Then who row r → f r.row.stage ≡ true → f row.stage ≡ true
-then_stays {who} {r} f no_leader no-announcer (stays stage) e = rw stage at e
-then_stays {who} {r} f no_leader no-announcer (leading l) e = absurd (both_ways _ (no_leader r.row.stage l) e)
-then_stays {who} {r} f no_leader no-announcer (announces d own stage effect) e = absurd (both_ways _ (ap f stage ∙ no-announcer d (first_other who.number)) e)
+then_stays {who} {r} f no_leader no_announcer (stays stage) e = rw stage at e
+then_stays {who} {r} f no_leader no_announcer (leading l) e = absurd (both_ways _ (no_leader r.row.stage l) e)
+then_stays {who} {r} f no_leader no_announcer (announces d own stage effect) e = absurd (both_ways _ (ap f stage ∙ no_announcer d (first_other who.number)) e)
 
 module _ (who : Member) (row : Row) where
   expiry_stage : (q : ℕ) (r : Response) → r ≡ on_expiry who row q → Then who row r

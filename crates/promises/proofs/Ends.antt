@@ -122,8 +122,8 @@ module _ (depth n : ℕ) (votes : List Vote) (many : 2 ≤ n) (few : n ≤ 8) wh
           let t : Turn n votes s (call_after depth s call) p input r = record { many = many; few = few; sound = going.sound; move = move; each = going.each } in
           let may = may_falls t in
           let adds_one = adds t going.bounded little in
-          let on-way = on_links t in
-          let Took-one = takes_input depth s call p input cause answer in
+          let on_way = on_links t in
+          let took_one = takes_input depth s call p input cause answer in
           let before = going.bounded in
           record {
             on =
@@ -137,7 +137,7 @@ module _ (depth n : ℕ) (votes : List Vote) (many : 2 ≤ n) (few : n ≤ 8) wh
                   each = each_after n votes many few s (call_after depth s call) p input r going.sound move going.each;
                   bounded = omega (arith, adds_one, may, before);
                 };
-            adds_sent = omega (arith, adds_one, on-way, Took-one);
+            adds_sent = omega (arith, adds_one, on_way, took_one);
             nearer = omega (arith, counted, left_falls t);
           }
 

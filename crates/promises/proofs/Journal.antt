@@ -83,7 +83,7 @@ pub record Told (vote : Vote) (stage : Stage) (J : List ℕ) : Type 0 where
 module _ (vote : Vote) (J : List ℕ) where
   -- a stage that says no less of the journal
   pub told_moves : (stage after : Stage) → held stage ≡ held after → closed stage ≡ closed after → initial after ≡ false → (promised after ≡ true → promised stage ≡ true) → most stage ≤ most after → Told vote stage J → Told vote after J
-  told_moves stage after e f not-initial still more t =
+  told_moves stage after e f not_initial still more t =
       record {
         post = cc;
         drop = cc;
@@ -107,10 +107,10 @@ module _ (vote : Vote) (J : List ℕ) where
 
   -- a decision that is written down, of its own or received
   pub told_decides : (own : Bool) (decision : Decision) (next : ℕ) (stage : Stage) → held stage ≡ None → closed stage ≡ None → most stage ≤ 1 → Told vote stage J → Told vote (Announcing decision next) (J ++ (code_of (cond own (reached decision) (received decision)) ∷ []))
-  told_decides true Post next stage none not-closed few t = search (arith, nat_tests, pushed)
-  told_decides true Drop next stage none not-closed few t = search (arith, nat_tests, pushed)
-  told_decides false Post next stage none not-closed few t = search (arith, nat_tests, pushed)
-  told_decides false Drop next stage none not-closed few t = search (arith, nat_tests, pushed)
+  told_decides true Post next stage none not_closed few t = search (arith, nat_tests, pushed)
+  told_decides true Drop next stage none not_closed few t = search (arith, nat_tests, pushed)
+  told_decides false Post next stage none not_closed few t = search (arith, nat_tests, pushed)
+  told_decides false Drop next stage none not_closed few t = search (arith, nat_tests, pushed)
 
 pub told_readies : (vote : Vote) (J : List ℕ) → Told vote Initial J → Told vote Voting (J ++ (code_of (ready vote) ∷ []))
 told_readies Yes J t = search (arith, nat_tests, pushed)

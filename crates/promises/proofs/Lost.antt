@@ -158,9 +158,9 @@ module _ {n : ℕ} {votes : List Vote} {s s' : State} {p : ℕ} {input : Input} 
               (is_there t is_vote b 0 (w.vote_there b low known (runs_before t 0 run0) (rw row at c) (runs_before t b runb) voted (rw row at out)))
 
           moves : (b ≡ p) × (row_of s' b ≡ r.row) → any_in is_vote (s'.links b 0) ≡ true
-          moves (same, mine-then) =
+          moves (same, mine_then) =
               ⊎_elim (λ old. before (rw same old)) (λ new. rw same (now_there t is_vote 0 new))
-              (or_cases _ _ (new_voted (acts t) (rw mine-then at runb) (rw mine-then at v)))
+              (or_cases _ _ (new_voted (acts t) (rw mine_then at runb) (rw mine_then at v)))
 
   -- the leader itself moves
   module _ (b : ℕ) (low : p < b) (kb : b < n) (running : runs r.row.status ≡ true) (lead : leads r.row.stage ≡ true) (runb : runs (row_of s' b).status ≡ true) (out : is_in r.row.noticed b ≡ false) (silent : is_in r.row.replied b ≡ false) (below : b < upto n r.row.stage) where

@@ -382,13 +382,13 @@ or_assoc false b c = refl
 
 -- what a history of calls keeps; the Bool says whether the event has happened
 module _ (depth n : ℕ) (votes : List Vote) (few : n ≤ 8) (event : ℕ → State → Call → Bool) (I : Bool → State → Type 0)
-    (no-event : (s : State) (call : Call) → call_after depth s call ≡ s → taken depth s call ≡ false → event depth s call ≡ false)
+    (no_event : (s : State) (call : Call) → call_after depth s call ≡ s → taken depth s call ≡ false → event depth s call ≡ false)
     (step : (happens : Bool) (s : State) (call : Call) (p : ℕ) (input : Input) (r : Response) → Sound n votes s → Cause call p input → Move s p input r (call_after depth s call) → taken depth s call ≡ true → I happens s → I (happens || event depth s call) (call_after depth s call)) where
   one_call : (happens : Bool) (s : State) (call : Call) → Sound n votes s → I happens s → Sound n votes (call_after depth s call) × I (happens || event depth s call) (call_after depth s call)
   one_call happens s call sound holds = by_outcome (outcome depth s (omega (arith, sound.ledgers_are, sound.rows_are)) call)
     where
       by_outcome : Outcome call s (call_after depth s call) (taken depth s call) → Sound n votes (call_after depth s call) × I (happens || event depth s call) (call_after depth s call)
-      by_outcome (refused same answer) = rw (no-event s call same answer, same, or_false happens) (sound, holds)
+      by_outcome (refused same answer) = rw (no_event s call same answer, same, or_false happens) (sound, holds)
       by_outcome (moved p input r cause move answer) = (
         record {
           ledgers_are = move.changes.same_ledgers ∙ sound.ledgers_are;

@@ -39,8 +39,8 @@ passed false true misread stale e = refl
 passed false false misread stale e = e
 
 pub opened_new : (links : Links) (entries : Entries) (n : ℕ) (numbers : List ℕ) → ((q p : ℕ) → is_link q p ≡ false → links q p ≡ []) → ((p : ℕ) → 8 ≤ p → entries p ≡ []) → is_ok (open_answer links entries n numbers) ≡ true → open_after links entries n numbers ≡ new n (votes_of numbers)
-opened_new links entries n numbers no-link no-ledger ok =
+opened_new links entries n numbers no_link no_ledger ok =
     let fresh = and_parts (no_message links) (no_entry entries) (passed (well_read n numbers) _ _ _ ok) in
     cond-true (is_ok (open_answer links entries n numbers)) (opened links entries n numbers) (closed links entries) ok
-    ∙ ap (λ l. opened l entries n numbers) (links_empty links no-link fresh.0)
-    ∙ ap (λ e. opened no_links e n numbers) (entries_empty entries no-ledger fresh.1)
+    ∙ ap (λ l. opened l entries n numbers) (links_empty links no_link fresh.0)
+    ∙ ap (λ e. opened no_links e n numbers) (entries_empty entries no_ledger fresh.1)

@@ -172,7 +172,7 @@ module _ (who : Member) (many : 2 ≤ who.ledgers) (few : who.ledgers ≤ 8) (mi
 
   -- a row with the same stage that has noticed the same
   goes_on : (q : ℕ) (m : Message) (after : Row) → after.status ≡ Running → after.noticed ≡ row.noticed → after.stage ≡ row.stage → Spent (hears q m) (quiet after)
-  goes_on q m after still same-noticed same-stage = spends (hears q m) after Nothing still (rw (same-noticed, same-stage) (omega arith)) (rw (same-noticed, same-stage) (omega arith)) tt
+  goes_on q m after still same_noticed same_stage = spends (hears q m) after Nothing still (rw (same_noticed, same_stage) (omega arith)) (rw (same_noticed, same_stage) (omega arith)) tt
 
   announces : (input : Input) (after : Row) (decision : Decision) (entry : Entry) → after.status ≡ Running → held row.stage ≡ None → 2 ≤ ahead_now + taken_by one input → Spent input (announce who after decision entry)
   announces input after decision entry still none enough =
@@ -205,9 +205,9 @@ module _ (who : Member) (many : 2 ≤ who.ledgers) (few : who.ledgers ≤ 8) (mi
   spends_vote q vote = cond_both (counts row.stage) (counted who (with_vote row q vote)) (quiet row) (Spent (hears q (Voted vote))) (λ c. by_vote vote (Voted vote) c) (λ _. goes_on q (Voted vote) row running refl refl)
     where
       counts_on : (m : Message) (after : Row) → after.status ≡ Running → after.noticed ≡ row.noticed → after.stage ≡ row.stage → counts row.stage ≡ true → Spent (hears q m) (counted who after)
-      counts_on m after still same-noticed same-stage c =
+      counts_on m after still same_noticed same_stage c =
           cond_both (is_some (first_missing after.ayes after.noes 1 who.ledgers)) (quiet after) (announce who after (outcome who after) (reached (outcome who after))) (Spent (hears q m))
-          (λ _. goes_on q m after still same-noticed same-stage)
+          (λ _. goes_on q m after still same_noticed same_stage)
           (λ _. announces_heard q m after (outcome who after) (reached (outcome who after)) still (grind arith))
 
       by_vote : (vote : Vote) (m : Message) → counts row.stage ≡ true → Spent (hears q m) (counted who (with_vote row q vote))

@@ -63,10 +63,10 @@ module _ {n : ℕ} {votes : List Vote} {s s' : State} {p : ℕ} {input : Input} 
 
       ordered : any_in (orders d) (s.links w b) ≡ true → (any_in (orders d) (s'.links w b) || settles d (row_of s' b) (s'.entries b)) ≡ true
       ordered there =
-          ⊎_elim (λ on-way. or_left _ _ on-way) (λ gone. or_right _ _ (after gone.0 gone.1)) (is_there t (orders d) w b there)
+          ⊎_elim (λ on_way. or_left _ _ on_way) (λ gone. or_right _ _ (after gone.0 gone.1)) (is_there t (orders d) w b there)
 
   spread_then : (over more : Bool) → (more ≡ true → (p ≡ w) × (wrote (code_of (obeyed d)) r.effect ≡ true) × (runs (row_of s p).status ≡ true)) → Spread n w d over s → Spread n w d (over || more) s'
-  spread_then over more obeyed-now spread b known other e = ⊎_elim (λ o. ⊎_elim before ends (or_cases over more o)) (λ now. let parts = and_parts _ _ now in goes_on parts.0 parts.1 (own_or_other t w)) (or_cases _ _ e)
+  spread_then over more obeyed_now spread b known other e = ⊎_elim (λ o. ⊎_elim before ends (or_cases over more o)) (λ now. let parts = and_parts _ _ now in goes_on parts.0 parts.1 (own_or_other t w)) (or_cases _ _ e)
     where
       before : over ≡ true → (any_in (orders d) (s'.links w b) || settles d (row_of s' b) (s'.entries b)) ≡ true
       before o = spread_still b known (spread b known other (or_left _ _ o))
@@ -76,7 +76,7 @@ module _ {n : ℕ} {votes : List Vote} {s s' : State} {p : ℕ} {input : Input} 
 
       ends : more ≡ true → (any_in (orders d) (s'.links w b) || settles d (row_of s' b) (s'.entries b)) ≡ true
       ends m =
-          let now = obeyed-now m in
+          let now = obeyed_now m in
           already (rw now.0 at now.2) (rw now.0 at (ended (acts t) d b (obeys (acts t) d now.1 now.2)))
 
       goes_on : runs (row_of s' w).status ≡ true → passes d b (row_of s' w).stage ≡ true → ((w ≡ p) × (row_of s' w ≡ r.row)) ⊎ ((w ≢ p) × (row_of s' w ≡ row_of s w)) → (any_in (orders d) (s'.links w b) || settles d (row_of s' b) (s'.entries b)) ≡ true

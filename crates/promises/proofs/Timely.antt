@@ -238,7 +238,7 @@ module _ {n : ℕ} {votes : List Vote} {s s' : State} {p : ℕ} {input : Input} 
 
   -- without a 4 at the coordinator there is no trace of a post
   no_trace : has 4 (s'.entries 0) ≡ false → Late n s' → Dead n s'
-  no_trace none late = record { none_alive = alive; none_posted = λ a known. ⊎_elim (λ eight. absurd (knows_none a (w'.closed a eight))) (λ no-eight. no-eight) (cases_Bool _); late = late }
+  no_trace none late = record { none_alive = alive; none_posted = λ a known. ⊎_elim (λ eight. absurd (knows_none a (w'.closed a eight))) (λ no_eight. no_eight) (cases_Bool _); late = late }
     where
       knows_none : (a : ℕ) → knows Post (s'.entries a) ≡ true → ⊥
       knows_none a e = both_ways _ none (w'.traced a e)
@@ -254,8 +254,8 @@ module _ {n : ℕ} {votes : List Vote} {s s' : State} {p : ℕ} {input : Input} 
     where
       own : (0 ≡ p) × (row_of s' 0 ≡ r.row) → Late n s'
       own (same, row) =
-          let mine-holds = subst (λ (x : ℕ). option_is_some (held (row_of s x).stage) ≡ true) same e in
-          ⊎_elim (λ now. decided (rw (row, holds_still (acts t) (rw row at now) mine-holds) mine-holds)) (λ stopped. gone stopped) (cases_Bool (runs (row_of s' 0).status))
+          let mine_holds = subst (λ (x : ℕ). option_is_some (held (row_of s x).stage) ≡ true) same e in
+          ⊎_elim (λ now. decided (rw (row, holds_still (acts t) (rw row at now) mine_holds) mine_holds)) (λ stopped. gone stopped) (cases_Bool (runs (row_of s' 0).status))
   late_then (unready q low known stopped none) = unready q low known (stopped_still t q stopped) (⊎_elim (λ two. absurd (ready two)) (λ still. still) (cases_Bool _))
     where
       ready : has 2 (s'.entries q) ≡ true → ⊥
@@ -289,7 +289,7 @@ module _ {n : ℕ} {votes : List Vote} {s s' : State} {p : ℕ} {input : Input} 
   drops_dead : wrote 5 r.effect ≡ true → (Alive n s → ⊥) → Late n s' → Dead n s'
   drops_dead five none late = record {
     none_alive = λ alive. ⊎_elim none (λ four. omega (arith, wrote_one (acts t) 4 5 four five)) (alive_before alive);
-    none_posted = λ a known. ⊎_elim (λ eight. absurd (⊎_elim (posted_alive a known) (λ new. omega (arith, wrote_one (acts t) 8 5 new.1 five)) (had t 8 a eight))) (λ no-eight. no-eight) (cases_Bool _);
+    none_posted = λ a known. ⊎_elim (λ eight. absurd (⊎_elim (posted_alive a known) (λ new. omega (arith, wrote_one (acts t) 8 5 new.1 five)) (had t 8 a eight))) (λ no_eight. no_eight) (cases_Bool _);
     late = late;
   }
     where
@@ -363,21 +363,21 @@ module _ {n : ℕ} {votes : List Vote} {s s' : State} {p : ℕ} {input : Input} 
 
   -- a restart that finds nothing closes with a drop
   unready_dead : wrote 9 r.effect ≡ true → runs (row_of s p).status ≡ false → has 2 (s.entries p) ≡ false → has 4 (s.entries p) ≡ false → Dead n s'
-  unready_dead nine stopped no-two no-four = no_trace (⊎_elim (λ four. absurd (before four)) (λ none. none) (cases_Bool _)) (⊎_elim own other (cases_eq p 0))
+  unready_dead nine stopped no_two no_four = no_trace (⊎_elim (λ four. absurd (before four)) (λ none. none) (cases_Bool _)) (⊎_elim own other (cases_eq p 0))
     where
       ready : p ≢ 0 → has 4 (s.entries 0) ≡ true → ⊥
-      ready other four = both_ways _ no-two ((w.all_ready four p (mine t)).1 (omega (arith, other)))
+      ready other four = both_ways _ no_two ((w.all_ready four p (mine t)).1 (omega (arith, other)))
 
       before : has 4 (s'.entries 0) ≡ true → ⊥
       before four =
-          ⊎_elim (λ old. ⊎_elim (λ (zeroth : p ≡ 0). both_ways _ no-four (rw zeroth old)) (λ other. ready other old) (cases_eq p 0))
+          ⊎_elim (λ old. ⊎_elim (λ (zeroth : p ≡ 0). both_ways _ no_four (rw zeroth old)) (λ other. ready other old) (cases_eq p 0))
           (λ new. omega (arith, wrote_one (acts t) 4 9 new.1 nine)) (had t 4 0 four)
 
       own : p ≡ 0 → Late n s'
       own zeroth = gone (rw zeroth at (stopped_still t p stopped))
 
       still_unready : has 2 (s'.entries p) ≡ true → ⊥
-      still_unready two = ⊎_elim (λ old. both_ways _ no-two old) (λ new. omega (arith, wrote_one (acts t) 2 9 new.1 nine)) (had t 2 p two)
+      still_unready two = ⊎_elim (λ old. both_ways _ no_two old) (λ new. omega (arith, wrote_one (acts t) 2 9 new.1 nine)) (had t 2 p two)
 
       other : p ≢ 0 → Late n s'
       other apart = unready p (omega (arith, apart)) (mine t) (stopped_still t p stopped) (⊎_elim (λ two. absurd (still_unready two)) (λ none. none) (cases_Bool _))

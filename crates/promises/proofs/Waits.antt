@@ -199,7 +199,7 @@ module _ (who : Member) (row : Row) (J : List ℕ) (r : Response) (few : who.led
   step_asks (Asking next) e does l absent below = by (first_missing row.noticed row.noticed (above next) who.ledgers) refl (cc)
     where
       by : (found : Option ℕ) → first_missing row.noticed row.noticed (above next) who.ledgers ≡ found → r ≡ record { row = in_stage row (asked found); effect = Send next (Ask row.round) } → AskedThen r
-      by found f does-so = rw (e, does-so) (next_asked next found f absent (rw does-so at below))
+      by found f does_so = rw (e, does_so) (next_asked next found f absent (rw does_so at below))
   step_asks Consulting e does l absent below = grind arith
   step_asks (Announcing d next) e does l absent below = absurd (grind arith)
   step_asks (Announced d) e does l absent below = absurd (grind arith)

@@ -1,5 +1,5 @@
 -- What holds of every run of n ledgers, 2 to 8, over links of every depth.
-use Rattle.std.specs.Prelude.{◌≡◌, ℕ, ◌+◌, ◌-◌, ◌*◌, ◌/◌, ◌<◌, ◌≤◌, Bool, true, false, ◌||◌, ◌≢◌, ◌⊎◌, List, length, Some, Err, slice_index_or}
+use Rattle.std.specs.Prelude.{◌≡◌, ℕ, ◌+◌, ◌-◌, ◌*◌, ◌/◌, ◌<◌, ◌≤◌, true, false, ◌||◌, ◌≢◌, ◌⊎◌, List, length, Some, Err, slice_index_or}
 use Rattle.journals.specs.declared.fault.JournalsFault.{JournalsFault}
 use Rattle.network.specs.declared.message.Decision.{Decision}
 use Rattle.network.specs.declared.message.Decision.TheVariants.{Post, Drop}

@@ -1,5 +1,5 @@
 -- Runs: a new floor, and calls one after the other, each taken or refused.
-use Rattle.std.specs.Prelude.{ℕ, zero, suc, ◌+◌, ◌-◌, Bool, true, false, cond, not, ◌&&◌, ◌||◌, List, [], ◌∷◌, length, replicate, is_ok, ◌==◌}
+use Rattle.std.specs.Prelude.{ℕ, zero, suc, ◌+◌, ◌-◌, Bool, false, cond, not, ◌&&◌, ◌||◌, List, [], ◌∷◌, length, replicate, is_ok, ◌==◌}
 use Rattle.journals.specs.Calls.{no_entries}
 use Rattle.journals.specs.Codes.{code_of}
 use Rattle.network.specs.Links.{no_links}
