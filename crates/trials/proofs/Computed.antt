@@ -3,7 +3,7 @@ use Rattle.std.proofs.Common.{refl}
 use Rattle.network.specs.Links.{is_link}
 use Rattle.protocol.specs.Bounded.{all_below}
 use Rattle.promises.specs.Runs.{on_the_way}
-use Rattle.trials.specs.Cases.{Disagrees, Drops, Goes_on, NeverBegun, Openings, Posts, Restarts, Restless, Tapes, TrialCases}
+use Rattle.trials.specs.Cases.{Disagrees, Drops, GoesOn, NeverBegun, Openings, Posts, Restarts, Restless, Tapes, TrialCases}
 
 openings : Openings
 unfolding all_below is_link
@@ -27,7 +27,7 @@ disagrees : Disagrees
 unfolding all_below is_link
 disagrees = record { too_early = refl; stepped = refl; none_on_its_way = refl; runs = refl; holds = refl; ledger_0 = refl; ledger_1 = refl }
 
-goes_on : Goes_on
+goes_on : GoesOn
 unfolding all_below is_link
 goes_on = record { all_taken = refl; none_early = refl; stopped = refl; ledger_0 = refl; ledger_1 = refl; rests = refl }
 

@@ -1,5 +1,5 @@
 -- What comes out of each trial.
-use Rattle.std.specs.Prelude.{◌≡◌, ℕ, true, false, List, [], ◌∷◌, replicate, Some, Ok, Err}
+use Rattle.std.specs.Prelude.{◌≡◌, true, false, [], ◌∷◌, replicate, Some, Ok, Err}
 use Rattle.journals.specs.Refusals.{number_of, refused}
 use Rattle.journals.specs.declared.entry.Entry.TheVariants.{TransactionAbort}
 use Rattle.journals.specs.declared.fault.JournalsRefusal.TheVariants.{TornTape}
@@ -68,7 +68,7 @@ pub record Disagrees : Type 0 where
   pub ledger_1 : (end_of hasty).entries 1 ≡ (2 ∷ 5 ∷ 9 ∷ 10 ∷ [])
 
 -- an expiry on time: whoever is left drops, and so does the other when it restarts
-pub record Goes_on : Type 0 where
+pub record GoesOn : Type 0 where
   pub all_taken : added_in left_alone counts_taken ≡ 11
   pub none_early : happened_in left_alone early ≡ false
   pub stopped : happened_in left_alone loses_coordinator ≡ true
@@ -99,6 +99,6 @@ pub record TrialCases : Type 0 where
   pub posts : Posts
   pub drops : Drops
   pub disagrees : Disagrees
-  pub goes_on : Goes_on
+  pub goes_on : GoesOn
   pub never_begun : NeverBegun
   pub restless : Restless
