@@ -1,19 +1,19 @@
 -- Every call is lawful.
-use Rattle.std.proofs.Common.{◌≡◌, ℕ, ◌+◌, ◌-◌, ◌^◌, ◌<◌, ◌≤◌, min, Bool, true, false, cond, not, ◌&&◌, eqb, ltb, ◌≢◌, List, [], ◌∷◌, ◌++◌, length, get_or, drop, set, is_ok, is_err, Ok, Err, Result, sym, refl, ap, ◌∙◌, subst, append-nil, arith, length-set, get_or-set_other, get_or-set_same}
+use Rattle.std.proofs.Common.{◌≡◌, ℕ, ◌+◌, ◌-◌, ◌^◌, ◌≤◌, min, Bool, true, false, cond, ◌&&◌, eqb, ltb, ◌≢◌, [], ◌∷◌, ◌++◌, length, get_or, set, is_ok, is_err, Ok, Err, Result, sym, refl, ap, ◌∙◌, subst, append-nil, arith, length-set, get_or-set_other, get_or-set_same}
 use Rattle.std.proofs.lemmas.List.{get_or_past}
-use Rattle.std.proofs.lemmas.Bool.{and_parts, eqb-false, eqb-true, ltb-true}
+use Rattle.std.proofs.lemmas.Bool.{eqb-false, eqb-true, ltb-true}
 use Rattle.std.proofs.lemmas.Bool.Decides.{nat_tests}
 use Rattle.journals.specs.Calls.{append_answer, with_entry}
 use Rattle.journals.specs.Codes.{code_of}
 use Rattle.journals.specs.declared.fault.JournalsFault.{JournalsFault}
 use Rattle.network.proofs.LinkFacts.{own_link}
-use Rattle.network.specs.Links.{Links, look_answer, put_answer, with_link}
+use Rattle.network.specs.Links.{Links, put_answer, with_link}
 use Rattle.network.specs.declared.fault.NetworkFault.{NetworkFault}
 use Rattle.network.specs.declared.message.Message.{Message}
 use Rattle.rules.specs.declared.effect.Effect.{Effect}
 use Rattle.rules.specs.declared.effect.Effect.TheVariants.{Nothing, Write, Send}
 use Rattle.rules.specs.declared.row.Row.{Row}
-use Rattle.protocol.specs.Laws.{Exchange, Lawful, Steady, less_first, onto}
+use Rattle.protocol.specs.Laws.{Exchange, Lawful, Steady, onto}
 use Rattle.protocol.specs.Perform.{from_journals, from_network, perform_after, perform_answer, with_row}
 use Rattle.protocol.specs.State.{State, no_row, row_of}
 

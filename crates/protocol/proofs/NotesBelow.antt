@@ -1,5 +1,5 @@
 -- How a loop over the ledgers comes to all notes.
-use Rattle.std.proofs.Common.{◌≡◌, ℕ, suc, ◌+◌, ◌<◌, ◌≤◌, List, [], ◌∷◌, ◌++◌, length, take, set, sym, refl, ap, ◌∙◌, append-nil, add-one, arith}
+use Rattle.std.proofs.Common.{◌≡◌, ℕ, suc, ◌+◌, ◌<◌, List, [], ◌∷◌, ◌++◌, length, take, set, sym, refl, ap, ◌∙◌, append-nil, add-one}
 use Rattle.std.proofs.lemmas.List.{take_more_set}
 use Rattle.protocol.specs.State.{State}
 use Rattle.protocol.specs.Worklist.{note_of, notes_below}

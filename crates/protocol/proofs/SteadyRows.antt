@@ -7,7 +7,7 @@ use Rattle.network.specs.declared.message.Message.TheVariants.{Prepare, Vote as 
 use Rattle.network.specs.declared.message.Vote.{Vote}
 use Rattle.network.specs.declared.message.Vote.TheVariants.{Yes, No}
 use Rattle.rules.specs.Ledgers.{first_missing, is_in}
-use Rattle.rules.specs.Rules.{above, act, at_held, coordinator_lacks, counted, denied, lead, on_expiry, on_message, other_above, participant_notices, same, with_notice, with_reply, with_vote}
+use Rattle.rules.specs.Rules.{above, act, at_held, counted, denied, lead, on_expiry, on_message, other_above, same, with_notice, with_reply, with_vote}
 use Rattle.rules.specs.Stages.{counts, held, initial, leads}
 use Rattle.rules.specs.declared.effect.Response.{Response}
 use Rattle.rules.specs.declared.row.Member.{Member}

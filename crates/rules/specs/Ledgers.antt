@@ -1,5 +1,5 @@
 -- Sets of ledgers.
-use Rattle.std.specs.Prelude.{ℕ, zero, suc, ◌+◌, ◌-◌, Bool, true, false, cond, ◌||◌, set, replicate, Some, None, Option, slice_index_or, slice_set}
+use Rattle.std.specs.Prelude.{ℕ, zero, suc, ◌+◌, ◌-◌, Bool, true, false, cond, ◌||◌, replicate, Some, None, Option, slice_index_or, slice_set}
 use Rattle.rules.specs.declared.ledgers.LedgerSet.{LedgerSet}
 
 abbrev pub empty : LedgerSet

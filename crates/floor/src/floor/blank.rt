@@ -6,7 +6,7 @@ use journals::set::Journals;
 use network::link::Network;
 
 pub(super) fn no_entry<J: Journals>(journals: &J) -> bool
-    ensures { result ≡ no_entry (entries journals.now) }
+    ensures { result ≡ no_entry (J.entries journals.now) }
 {
     let mut none = true;
     let mut ledger = 0;
@@ -18,7 +18,7 @@ pub(super) fn no_entry<J: Journals>(journals: &J) -> bool
 }
 
 fn no_message_from<N: Network>(network: &N, sender: u8) -> bool
-    ensures { result ≡ no_message_from (links network.now) sender }
+    ensures { result ≡ no_message_from (N.links network.now) sender }
 {
     let mut none = true;
     let mut receiver = 0;
@@ -30,7 +30,7 @@ fn no_message_from<N: Network>(network: &N, sender: u8) -> bool
 }
 
 pub(super) fn no_message<N: Network>(network: &N) -> bool
-    ensures { result ≡ no_message (links network.now) }
+    ensures { result ≡ no_message (N.links network.now) }
 {
     let mut none = true;
     let mut sender = 0;

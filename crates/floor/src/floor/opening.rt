@@ -76,7 +76,7 @@ fn check_opening<N: Network, J: Journals>(
     ledgers: u8,
     votes: &[u8],
 ) -> Result<(), FloorFault>
-    ensures answer { result ≡ open_answer (links network.now) (entries journals.now) ledgers votes.now }
+    ensures answer { result ≡ open_answer (N.links network.now) (J.entries journals.now) ledgers votes.now }
     ensures few { OnOk result (ledgers ≤ 8) }
 {
     if ledgers < 2 || ledgers > 8 || votes.len() != ledgers as usize || !votes_fit(votes) {
@@ -90,8 +90,8 @@ fn check_opening<N: Network, J: Journals>(
 
 impl<N: Network, J: Journals> Floor<N, J> {
     fn opened_or_closed(network: N, journals: J, ledgers: u8, votes: &[u8]) -> Opening<N, J>
-        ensures answer { result.answer ≡ open_answer (links network) (entries journals) ledgers votes.now }
-        ensures after { state links entries result.floor ≡ open_after (links network) (entries journals) ledgers votes.now }
+        ensures answer { result.answer ≡ open_answer (N.links network) (J.entries journals) ledgers votes.now }
+        ensures after { state N.links J.entries result.floor ≡ open_after (N.links network) (J.entries journals) ledgers votes.now }
     {
         let answer = check_opening(&network, &journals, ledgers, votes);
         let floor = match answer {
@@ -117,9 +117,9 @@ impl<N: Network, J: Journals> Floor<N, J> {
 
     // Opens a floor over a network and journals that hold nothing yet.
     pub fn open(network: N, journals: J, ledgers: u8, votes: &[u8]) -> Opening<N, J>
-        ensures answer { result.answer ≡ open_answer (links network) (entries journals) ledgers votes.now }
-        ensures after { state links entries result.floor ≡ open_after (links network) (entries journals) ledgers votes.now }
-        ensures fresh { is_ok result.answer ≡ true → state links entries result.floor ≡ new ledgers (votes_of votes.now) }
+        ensures answer { result.answer ≡ open_answer (N.links network) (J.entries journals) ledgers votes.now }
+        ensures after { state N.links J.entries result.floor ≡ open_after (N.links network) (J.entries journals) ledgers votes.now }
+        ensures fresh { is_ok result.answer ≡ true → state N.links J.entries result.floor ≡ new ledgers (votes_of votes.now) }
     {
         Floor::opened_or_closed(network, journals, ledgers, votes)
     }

@@ -31,14 +31,14 @@ pub(super) fn runs(status: Status) -> bool
 impl<N: Network, J: Journals> Floor<N, J> {
     pub(super) fn row_of(&self, ledger: u8) -> Row
         requires { ledger < 8 }
-        ensures { result ≡ row_of (state links entries self.now) ledger }
+        ensures { result ≡ row_of (state N.links J.entries self.now) ledger }
     {
         self.rows[ledger as usize]
     }
 
     pub(super) fn member_of(&self, ledger: u8) -> Member
         requires { ledger < 8 }
-        ensures { result ≡ member_of (state links entries self.now) ledger }
+        ensures { result ≡ member_of (state N.links J.entries self.now) ledger }
     {
         Member {
             ledgers: self.ledgers,
@@ -49,7 +49,7 @@ impl<N: Network, J: Journals> Floor<N, J> {
 
     // Refuses a call that does not name two different ledgers of the floor.
     pub(super) fn check_pair(&self, one: u8, other: u8) -> Result<(), FloorFault>
-        ensures { MatchResult result (λ _. (pair (state links entries self.now) one other ≡ true) × (one < 8) × (other < 8)) (λ fault. (pair (state links entries self.now) one other ≡ false) × (fault ≡ Refused UnknownLedger one other)) }
+        ensures { MatchResult result (λ _. (pair (state N.links J.entries self.now) one other ≡ true) × (one < 8) × (other < 8)) (λ fault. (pair (state N.links J.entries self.now) one other ≡ false) × (fault ≡ Refused UnknownLedger one other)) }
     {
         if one >= self.ledgers || other >= self.ledgers || one == other {
             return Err(FloorFault::Refused(FloorRefusal::UnknownLedger, one, other));
@@ -58,7 +58,7 @@ impl<N: Network, J: Journals> Floor<N, J> {
     }
 
     pub(super) fn finding(&self, ledger: u8) -> Finding
-        ensures { result ≡ finding (entries self.now.journals ledger) }
+        ensures { result ≡ finding (J.entries self.now.journals ledger) }
     {
         if self.has(ledger, Entry::TransactionCommit.code()) {
             return found(Recovery::Posted, Effect::Nothing);
@@ -82,7 +82,7 @@ impl<N: Network, J: Journals> Floor<N, J> {
 
     // Whether the ledger's journal has this code.
     pub(super) fn has(&self, ledger: u8, code: u8) -> bool
-        ensures { result ≡ has code (entries self.now.journals ledger) }
+        ensures { result ≡ has code (J.entries self.now.journals ledger) }
     {
         let mut place = 0;
         while let Ok(entry) = self.journals.read(ledger, place) {

@@ -37,5 +37,5 @@ returns g c =
     let j = c.args.self.now.journals in
     let E = g.J.Journals.entries j in
     let p = c.args.ledger in
-    let past = read_past E p c.loop-entry.place (g.met.J.Journals.bounded j p) c.in-default.field-0 c.in-default.ensures in
+    let past = read_past E p c.loop-entry.place (g.met.J.Journals.bounded j p) c.in_default.field-0 c.in_default.ensures in
     sym (ap (has c.args.code) (drop_all c.loop-entry.place (E p) past)) ∙ c.loop-entry.invariant.0

@@ -6,4 +6,4 @@ loop-sender-init g c = below_none _
 
 pub loop-sender-preserved : goal.loop-sender-preserved
 loop-sender-preserved g c =
-    below_more _ c.loop-sender.invariant.0 c.is-clear-from-all.ensures c.loop-sender-test.true
+    below_more _ c.loop-sender.invariant.0 c.is_clear_from-all.ensures c.loop-sender-test.true

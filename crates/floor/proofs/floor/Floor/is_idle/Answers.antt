@@ -7,4 +7,4 @@ loop-ledger-init g c = below_none _
 
 pub loop-ledger-preserved : goal.loop-ledger-preserved
 loop-ledger-preserved g c =
-    below_more _ c.loop-ledger.invariant.0 (c.is-err-all.ensures.value ∙ ap is_err c.step-of.ensures.answer) c.loop-ledger-test.true
+    below_more _ c.loop-ledger.invariant.0 (c.is_err-all.ensures.value ∙ ap is_err c.step_of.ensures.answer) c.loop-ledger-test.true

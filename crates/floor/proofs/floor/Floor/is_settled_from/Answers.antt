@@ -6,4 +6,4 @@ loop-receiver-init g c = below_none _
 
 pub loop-receiver-preserved : goal.loop-receiver-preserved
 loop-receiver-preserved g c =
-    below_more _ c.loop-receiver.invariant.0 c.is-settled-between-all.ensures c.loop-receiver-test.true
+    below_more _ c.loop-receiver.invariant.0 c.is_settled_between-all.ensures c.loop-receiver-test.true

@@ -5,10 +5,10 @@ use Rattle.floor.proofs.floor.Floor.open.Goals as goal
 pub returns : goal.returns
 returns g c =
     record {
-      answer = c.opened-or-closed.ensures.answer;
-      after = c.opened-or-closed.ensures.after;
+      answer = c.opened_or_closed.ensures.answer;
+      after = c.opened_or_closed.ensures.after;
       fresh =
           λ ok.
-          c.opened-or-closed.ensures.after
-          ∙ opened_new (g.N.Network.links c.args.network) (g.J.Journals.entries c.args.journals) c.args.ledgers c.args.votes.now (g.met.N.Network.bounded c.args.network) (g.met.J.Journals.bounded c.args.journals) (sym (ap is_ok c.opened-or-closed.ensures.answer) ∙ ok);
+          c.opened_or_closed.ensures.after
+          ∙ opened_new (g.N.Network.links c.args.network) (g.J.Journals.entries c.args.journals) c.args.ledgers c.args.votes.now (g.met.N.Network.bounded c.args.network) (g.met.J.Journals.bounded c.args.journals) (sym (ap is_ok c.opened_or_closed.ensures.answer) ∙ ok);
     }

@@ -7,4 +7,4 @@ loop-ledger-init g c = below_none _
 
 pub loop-ledger-preserved : goal.loop-ledger-preserved
 loop-ledger-preserved g c =
-    below_more _ c.loop-ledger.invariant.0 (c.is-err-none.ensures.value ∙ ap is_err c.read.ensures) c.loop-ledger-test.true
+    below_more _ c.loop-ledger.invariant.0 (c.is_err-none.ensures.value ∙ ap is_err c.read.ensures) c.loop-ledger-test.true

@@ -7,4 +7,4 @@ loop-receiver-init g c = below_none _
 
 pub loop-receiver-preserved : goal.loop-receiver-preserved
 loop-receiver-preserved g c =
-    below_more _ c.loop-receiver.invariant.0 (c.is-err-none.ensures.value ∙ ap is_err c.look.ensures) c.loop-receiver-test.true
+    below_more _ c.loop-receiver.invariant.0 (c.is_err-none.ensures.value ∙ ap is_err c.look.ensures) c.loop-receiver-test.true

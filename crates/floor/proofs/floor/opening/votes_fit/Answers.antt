@@ -8,4 +8,4 @@ loop-ledger-init c = below_none _
 
 pub loop-ledger-preserved : goal.loop-ledger-preserved
 loop-ledger-preserved c =
-    below_more _ c.loop-ledger.invariant.0 (c.is-vote-fit.ensures ∙ ap is_vote c.number-at-number.ensures) c.loop-ledger-test.true
+    below_more _ c.loop-ledger.invariant.0 (c.is_vote-fit.ensures ∙ ap is_vote c.number_at-number.ensures) c.loop-ledger-test.true
