@@ -19,5 +19,5 @@ returns-in-Err c =
     let told = at_place (read_tape c.args.bytes.now) c.in-Err.fault c.args.place.now c.in-Err.ensures.answer in
     record {
       answer = told.0;
-      after = c.unwrap-or.ensures ∙ ap (λ o. unwrap_or o c.args.place.now) c.place.ensures ∙ told.1;
+      after = c.unwrap_or.ensures ∙ ap (λ o. unwrap_or o c.args.place.now) c.place.ensures ∙ told.1;
     }
