@@ -3,7 +3,7 @@ use Rattle.std.proofs.Common.{◌≡◌, ℕ, zero, suc, ◌+◌, ◌-◌, ◌<�
 use Rattle.std.proofs.lemmas.List.{drop-drop, get_or-drop, length-take-le}
 use Rattle.std.proofs.lemmas.Bool.{eq-eqb, ltb-true, ne_eqb}
 use Rattle.std.proofs.lemmas.Bool.Decides.{nat_tests}
-use Rattle.script.specs.Lines.{LineAt, Lines, lines_of, longer, with_line}
+use Rattle.script.specs.Lines.{LineAt, lines_of, with_line}
 
 -- no byte 10 among the first n
 abbrev pub Plain : List ℕ → ℕ → Type 0

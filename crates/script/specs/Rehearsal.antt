@@ -8,7 +8,6 @@ use Rattle.promises.specs.Runs.{new}
 use Rattle.protocol.specs.Opening.{closed, open_answer, opened, votes_of}
 use Rattle.protocol.specs.Refusals.{check}
 use Rattle.protocol.specs.State.{State}
-use Rattle.protocol.specs.declared.call.Answer.{Answer}
 use Rattle.protocol.specs.declared.call.Call.{Call}
 use Rattle.protocol.specs.declared.fault.FloorFault.{FloorFault}
 use Rattle.script.specs.First.{First, first_of, read_first}

@@ -7,7 +7,6 @@ use Rattle.protocol.specs.declared.standing.Standing.{Standing}
 use Rattle.protocol.specs.declared.standing.Standing.TheVariants.{Running, Stopped, Known, Uncertain}
 use Rattle.report.specs.Letters.{letters}
 use Rattle.script.specs.Refusals.{layer_of, number_of}
-use Rattle.script.specs.declared.fault.ScriptFault.{ScriptFault}
 use Rattle.script.specs.declared.fault.ScriptRefusal.{ScriptRefusal}
 
 -- the line's number and 0

@@ -47,7 +47,7 @@ fn push_work<N: Network, J: Journals>(
     text: &mut String,
     floor: &Floor<N, J>,
 ) -> Result<(), AllocError>
-    ensures { OnOk result (string_bytes text.new ≡ string_bytes text.old ++ settle_text (state links entries floor.now)) }
+    ensures { OnOk result (string_bytes text.new ≡ string_bytes text.old ++ settle_text (state N.links J.entries floor.now)) }
 {
     let mut notes = [Note {
         ledger: 0,
@@ -69,7 +69,7 @@ pub fn list_work<N: Network + Drop, J: Journals + Drop>(
     journals: J,
     script: &[u8],
 ) -> Result<String, AllocError>
-    ensures { IfOk result (λ text. string_bytes text ≡ work_text depth (links network) (entries journals) script.now) }
+    ensures { IfOk result (λ text. string_bytes text ≡ work_text N.depth (N.links network) (J.entries journals) script.now) }
 {
     let Rehearsal {
         floor,

@@ -15,23 +15,23 @@ loop-line-preserved g c =
     let at = c.in-Some.ensures.1 in
     let lines = lines_of (drop c.loop-line.start script) in
     let rest = lines_of (drop c.in-Some.line.next script) in
-    let read = sym c.in-Some-read-call.ensures.value in
+    let read = sym c.in-Some-read_call.ensures.value in
     let told = c.raised-answer.ensures ∙ ap raised c.call.ensures.answer in (
-      text_step depth s k lines rest _ at.first _ read _ _ told c.call.ensures.after _ (string_bytes c.loop-line.text) _ c.loop-line.invariant.0 c.in-ok-push-answer.ensures,
+      text_step depth s k lines rest _ at.first _ read _ _ told c.call.ensures.after _ (string_bytes c.loop-line.text) _ c.loop-line.invariant.0 c.in_ok-push_answer.ensures,
       calls_step depth s k lines rest _ at.first _ read _ _ told c.call.ensures.after _ c.loop-line.invariant.1,
       omega (arith, at.behind),
     )
 
-pub returns-in-ok-push-fault-2 : goal.returns-in-ok-push-fault-2
-returns-in-ok-push-fault-2 g c =
+pub returns-in_ok-push_fault-2 : goal.returns-in_ok-push_fault-2
+returns-in_ok-push_fault-2 g c =
     let depth = g.N.Network.depth in
     let s = state g.N.Network.links g.J.Journals.entries c.loop-line.floor in
     let script = c.args.script.now in
     let k = c.loop-line.number in
-    let none = c.in-default.ensures in
+    let none = c.in_default.ensures in
     let lines = lines_of (drop c.loop-line.start script) in
     record {
-      text = text_end depth s k lines none _ _ _ _ c.loop-line.invariant.0 (end_left k c.loop-line.start script c.if-start-script.true none) (c.in-ok-push-fault-2.ensures ∙ ap (λ fault. string_bytes c.loop-line.text ++ fault_text fault.line fault.refusal) c.bad-line-then-start-script.ensures);
+      text = text_end depth s k lines none _ _ _ _ c.loop-line.invariant.0 (end_left k c.loop-line.start script c.if-start-script.true none) (c.in_ok-push_fault-2.ensures ∙ ap (λ fault. string_bytes c.loop-line.text ++ fault_text fault.line fault.refusal) c.bad_line-then-start-script.ensures);
       floor = calls_end depth s k lines none _ c.loop-line.invariant.1;
     }
 
@@ -41,7 +41,7 @@ returns-else-start-script g c =
     let s = state g.N.Network.links g.J.Journals.entries c.loop-line.floor in
     let script = c.args.script.now in
     let k = c.loop-line.number in
-    let none = c.in-default.ensures in
+    let none = c.in_default.ensures in
     let lines = lines_of (drop c.loop-line.start script) in
     let text = string_bytes c.loop-line.text in
     record {

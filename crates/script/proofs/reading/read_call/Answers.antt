@@ -9,4 +9,4 @@ as_written line None e = tt
 as_written line (Some call) e = line_written line call (sym e)
 
 pub returns : goal.returns
-returns c = record { value = c.chosen-call.ensures; written = as_written _ _ c.chosen-call.ensures }
+returns c = record { value = c.chosen_call.ensures; written = as_written _ _ c.chosen_call.ensures }

@@ -1,4 +1,4 @@
-use Rattle.std.proofs.Common.{◌≡◌, ℕ, List, [], ◌∷◌, ◌++◌, string_bytes, codes, decimal, refl, ap, ◌∙◌}
+use Rattle.std.proofs.Common.{◌≡◌, ℕ, [], ◌∷◌, ◌++◌, string_bytes, codes, decimal, refl, ap, ◌∙◌}
 use lib.Utf8.{encode}
 use Rattle.std.proofs.lemmas.Result.{IfOk-weaker}
 use Rattle.protocol.specs.declared.standing.Standing.{Standing}
@@ -21,5 +21,5 @@ as_text ledger letter standing l =
 pub returns : goal.returns
 returns c =
     IfOk-weaker c.format.result _ _
-    (λ text e. let e' : string_bytes text ≡ codes "L " ++ (decimal c.args.ledger ++ (32 ∷ (encode c.standing-letter-letter.result ++ (32 ∷ [])))) = e in e' ∙ as_text _ _ c.args.standing c.standing-letter-letter.ensures)
+    (λ text e. let e' : string_bytes text ≡ codes "L " ++ (decimal c.args.ledger ++ (32 ∷ (encode c.standing_letter-letter.result ++ (32 ∷ [])))) = e in e' ∙ as_text _ _ c.args.standing c.standing_letter-letter.ensures)
     c.format.ensures.ok

@@ -9,7 +9,7 @@ loop-ledger-init g c = texts_none (state g.N.Network.links g.J.Journals.entries 
 
 pub loop-ledger-preserved : goal.loop-ledger-preserved
 loop-ledger-preserved g c =
-    texts_more (state g.N.Network.links g.J.Journals.entries c.args.floor.now) c.loop-ledger.ledger (string_bytes c.args.text.now) (string_bytes c.loop-ledger.text) _ c.loop-ledger.invariant c.in-ok-push-ledger.ensures
+    texts_more (state g.N.Network.links g.J.Journals.entries c.args.floor.now) c.loop-ledger.ledger (string_bytes c.args.text.now) (string_bytes c.loop-ledger.text) _ c.loop-ledger.invariant c.in_ok-push_ledger.ensures
 
 pub returns : goal.returns
 returns g c =
@@ -18,5 +18,5 @@ returns g c =
     let end : c.loop-ledger.ledger ≡ s.ledgers = omega (arith, c.ledgers-ledger-end.ensures.value) in
     texts_end before (string_bytes c.loop-ledger.text) _ (ledger_texts s s.ledgers) (total_text s.sent) _
     (c.loop-ledger.invariant ∙ ap (λ n. before ++ ledger_texts s n) end)
-    c.in-ok-push-str.ensures.bytes
-    (c.as-str.ensures.value ∙ c.in-ok-last.ensures ∙ ap total_text c.total.ensures)
+    c.in_ok-push_str.ensures.bytes
+    (c.as_str.ensures.value ∙ c.in_ok-last.ensures ∙ ap total_text c.total.ensures)

@@ -10,7 +10,7 @@ pub returns : goal.returns
 unfolding encode
 returns g c =
     joined _ _ _ _ _ _ _
-    (c.as-str.ensures.value ∙ c.in-ok-head.ensures)
-    c.in-ok-push-str.ensures.bytes
-    c.in-ok-push-letters.ensures
-    c.in-ok-push.ensures.bytes
+    (c.as_str.ensures.value ∙ c.in_ok-head.ensures)
+    c.in_ok-push_str.ensures.bytes
+    c.in_ok-push_letters.ensures
+    c.in_ok-push.ensures.bytes

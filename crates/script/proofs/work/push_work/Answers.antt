@@ -13,8 +13,8 @@ returns g c =
     let blank : List Note = replicate 8 (record { ledger = 0; reason = Uncertain }) in
     let laid = listed s c.in-Ok.count blank c.worklist.new.list found.answer found.after in
     settled s (string_bytes c.args.text.now) _ _ _ _ c.in-Ok.count
-    c.in-ok-push-notes.ensures
+    c.in_ok-push_notes.ensures
     (front c.in-Ok.count c.worklist.new.list ∙ laid.1)
-    c.in-ok-push-str.ensures.bytes
-    (c.as-str.ensures.value ∙ c.in-ok-last.ensures)
+    c.in_ok-push_str.ensures.bytes
+    (c.as_str.ensures.value ∙ c.in_ok-last.ensures)
     laid.0
