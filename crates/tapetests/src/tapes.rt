@@ -109,8 +109,8 @@ fn written_again(rt: HostRuntime) -> Result<(), Fail> {
     let tape = Tape::from_bytes(&full)?;
     assert_eq!(rt; tape.len(), 64);
     assert_eq!(rt; tape.write_to(&mut buffer)?, 256);
-    assert!(rt; &full == &buffer[0..256]);
-    assert!(rt; &buffer[256..260] == &[7, 7, 7, 7]);
+    assert!(rt; full.as_slice() == &buffer[0..256]);
+    assert!(rt; &buffer[256..260] == [7, 7, 7, 7].as_slice());
     let mut short = [7u8; 255];
     match tape.write_to(&mut short) {
         Ok(_) => return Err(Fail::new("a short buffer was taken")),
