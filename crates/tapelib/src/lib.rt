@@ -1,4 +1,4 @@
-// The check of a tape, exported for programs in other languages.
+// The check of a tape, for programs in other languages: the crate `tapelib_c` exports it.
 #![tactic(auto)]
 
 ghost use Rattle.std.specs.Prelude.{◌≡◌, is_ok};
@@ -8,8 +8,7 @@ ghost use Rattle.tapelib.specs.Check.{place_after};
 use tape::Tape;
 
 // Whether the tape is whole; where it is torn, `place` is set to where.
-#[unsafe(no_mangle)]
-pub extern "C" fn tape_is_whole(bytes: &[u8], place: &mut usize) -> bool
+pub fn tape_is_whole(bytes: &[u8], place: &mut usize) -> bool
     ensures answer { result ≡ is_ok (read_tape bytes.now) }
     ensures after { place.new ≡ place_after (read_tape bytes.now) place.old }
 {
