@@ -1,4 +1,5 @@
 // Whole batches, over the pool and the rows, and over the lanes and the tape.
+use floor::fault::FloorFault;
 use floor::floor::Floor;
 use floor::opening::Opening;
 use journals::rows::Rows;
@@ -6,7 +7,6 @@ use journals::set::Journals;
 use lanes::Lanes;
 use network::link::Network;
 use pool::Pool;
-use protocol::fault::FloorFault;
 use std::process::Abort;
 use std::test::Fail;
 use tape::Tape;
