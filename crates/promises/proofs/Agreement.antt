@@ -4,7 +4,7 @@ use Rattle.std.proofs.lemmas.Bool.{and_parts, both_ways, cases_Bool, eqb-true, n
 use Rattle.network.specs.declared.message.Vote.{Vote}
 use Rattle.rules.specs.declared.effect.Response.{Response}
 use Rattle.protocol.specs.Bounded.{all_below}
-use Rattle.protocol.specs.Calls.{after_all, call_after}
+use Rattle.protocol.specs.Plans.{after_all, call_after}
 use Rattle.protocol.specs.Rest.{alive, clear, on_time, settled, settled_from}
 use Rattle.protocol.specs.State.{State}
 use Rattle.protocol.specs.declared.call.Call.{Call}

@@ -11,7 +11,7 @@ use Rattle.rules.specs.Stages.{held, leads}
 use Rattle.rules.specs.declared.effect.Response.{Response}
 use Rattle.rules.specs.declared.row.Member.{Member}
 use Rattle.rules.specs.declared.row.Row.{Row}
-use Rattle.protocol.specs.Calls.{after_all, call_after}
+use Rattle.protocol.specs.Plans.{after_all, call_after}
 use Rattle.protocol.specs.declared.call.Call.{Call}
 use Rattle.promises.specs.Runs.{happened, new, taken}
 use Rattle.protocol.specs.State.{State, has, member_of, row_of, runs}

@@ -13,7 +13,7 @@ use Rattle.rules.specs.declared.ledgers.LedgerSet.{LedgerSet}
 use Rattle.rules.specs.declared.stage.Stage.{Stage}
 use Rattle.rules.specs.declared.stage.Stage.TheVariants.{Initial, Preparing, Wait, Voting, Ready, Asking, Consulting, Announcing, Announced, Decided}
 use Rattle.protocol.specs.Bounded.{all_below}
-use Rattle.protocol.specs.Calls.{after_all, call_after}
+use Rattle.protocol.specs.Plans.{after_all, call_after}
 use Rattle.protocol.specs.Rest.{all_clear, at_rest, clear, clear_from, idle, on_time, patient, settled, settled_from, unmissed}
 use Rattle.protocol.specs.State.{State, has, row_of, runs}
 use Rattle.protocol.specs.declared.call.Call.{Call}

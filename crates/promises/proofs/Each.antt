@@ -22,7 +22,7 @@ use Rattle.rules.specs.declared.stage.Stage.{Stage}
 use Rattle.rules.specs.declared.stage.Stage.TheVariants.{Initial, Preparing, Wait, Voting, Ready, Asking, Consulting, Announcing, Announced, Decided}
 use Rattle.rules.specs.declared.stage.Status.{Status}
 use Rattle.rules.specs.declared.stage.Status.TheVariants.{Stopped, Running, Restarted}
-use Rattle.protocol.specs.Calls.{after_all}
+use Rattle.protocol.specs.Plans.{after_all}
 use Rattle.protocol.specs.Recovery.{finding}
 use Rattle.protocol.specs.State.{State, fresh, has, member_of, no_row, row_of, runs, stopped}
 use Rattle.protocol.specs.declared.call.Call.{Call}

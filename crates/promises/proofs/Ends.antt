@@ -7,7 +7,7 @@ use Rattle.rules.specs.declared.effect.Effect.TheVariants.{Nothing, Write, Send}
 use Rattle.rules.specs.declared.effect.Response.{Response}
 use Rattle.rules.specs.declared.row.Row.{Row}
 use Rattle.protocol.specs.Bounded.{all_below}
-use Rattle.protocol.specs.Calls.{after_all, call_after}
+use Rattle.protocol.specs.Plans.{after_all, call_after}
 use Rattle.protocol.specs.State.{State, row_of}
 use Rattle.protocol.specs.declared.call.Call.{Call}
 use Rattle.protocol.specs.declared.call.Call.TheVariants.{Begin, Step, Deliver, Expire, Stop, Restart}

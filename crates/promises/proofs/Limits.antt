@@ -15,7 +15,8 @@ use Rattle.rules.specs.declared.effect.Response.{Response}
 use Rattle.rules.specs.declared.row.Row.{Row}
 use Rattle.rules.specs.declared.stage.Status.{Status}
 use Rattle.rules.specs.declared.stage.Status.TheVariants.{Running}
-use Rattle.protocol.specs.Calls.{after_all, answered, begin_of, call_answer, do_answer, expiry_of, found_answer, looked_answer, met, pair, recovered, respond, restart_of, step_of, stop_of}
+use Rattle.protocol.specs.Calls.{answered, do_answer, expiry_of, found_answer, looked_answer, pair, respond, restart_of}
+use Rattle.protocol.specs.Plans.{after_all, begin_of, call_answer, met, recovered, step_of, stop_of}
 use Rattle.protocol.specs.Perform.{perform_answer}
 use Rattle.protocol.specs.State.{State, fresh, no_row, row_of}
 use Rattle.protocol.specs.declared.call.Call.{Call}

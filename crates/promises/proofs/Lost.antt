@@ -6,7 +6,7 @@ use Rattle.rules.specs.Ledgers.{is_in}
 use Rattle.rules.specs.Stages.{counts, initial, leads}
 use Rattle.rules.specs.declared.effect.Response.{Response}
 use Rattle.rules.specs.declared.stage.Stage.{Stage}
-use Rattle.protocol.specs.Calls.{after_all}
+use Rattle.protocol.specs.Plans.{after_all}
 use Rattle.protocol.specs.State.{State, has, row_of, runs}
 use Rattle.protocol.specs.declared.call.Call.{Call}
 use Rattle.promises.specs.Runs.{new}

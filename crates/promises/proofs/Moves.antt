@@ -24,7 +24,8 @@ use Rattle.rules.specs.declared.row.Member.{Member}
 use Rattle.rules.specs.declared.row.Row.{Row}
 use Rattle.rules.specs.declared.stage.Stage.TheVariants.{Preparing}
 use Rattle.rules.specs.declared.stage.Status.TheVariants.{Stopped, Restarted}
-use Rattle.protocol.specs.Calls.{after_all, answered, begin_of, call_after, do_after, do_answer, expiry_of, found_after, found_answer, looked_after, looked_answer, met, pair, recovered, respond, restart_of, step_of, stop_of, without_first}
+use Rattle.protocol.specs.Calls.{answered, do_after, do_answer, expiry_of, found_after, found_answer, looked_after, looked_answer, pair, respond, restart_of, without_first}
+use Rattle.protocol.specs.Plans.{after_all, begin_of, call_after, met, recovered, step_of, stop_of}
 use Rattle.protocol.specs.Perform.{from_journals, from_network, perform_after, perform_answer, performed}
 use Rattle.protocol.specs.Recovery.{finding}
 use Rattle.protocol.specs.Refusals.{check}

@@ -20,7 +20,8 @@ use Rattle.rules.specs.declared.effect.Response.{Response}
 use Rattle.rules.specs.declared.row.Member.{Member}
 use Rattle.rules.specs.declared.row.Row.{Row}
 use Rattle.protocol.specs.Bounded.{all_below}
-use Rattle.protocol.specs.Calls.{after_all, answered, do_answer, expiry_of, looked_answer, met, pair, respond, step_of}
+use Rattle.protocol.specs.Calls.{answered, do_answer, expiry_of, looked_answer, pair, respond}
+use Rattle.protocol.specs.Plans.{after_all, met, step_of}
 use Rattle.protocol.specs.Perform.{perform_answer}
 use Rattle.protocol.specs.Refusals.{check}
 use Rattle.protocol.specs.Rest.{all_clear, at_rest, clear, clear_from, idle, on_time, patient, unmissed}

@@ -12,7 +12,7 @@ use Rattle.rules.specs.Rules.{same}
 use Rattle.rules.specs.Stages.{held}
 use Rattle.rules.specs.declared.effect.Response.{Response}
 use Rattle.rules.specs.declared.row.Row.{Row}
-use Rattle.protocol.specs.Calls.{after_all, call_after}
+use Rattle.protocol.specs.Plans.{after_all, call_after}
 use Rattle.protocol.specs.State.{State, has, row_of, runs}
 use Rattle.protocol.specs.declared.call.Call.{Call}
 use Rattle.protocol.specs.declared.call.Call.TheVariants.{Begin, Step, Deliver, Expire, Stop, Restart}

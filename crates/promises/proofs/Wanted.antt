@@ -12,7 +12,7 @@ use Rattle.rules.specs.Ledgers.{is_in}
 use Rattle.rules.specs.Stages.{held}
 use Rattle.rules.specs.declared.effect.Response.{Response}
 use Rattle.rules.specs.declared.stage.Status.TheVariants.{Running}
-use Rattle.protocol.specs.Calls.{after_all}
+use Rattle.protocol.specs.Plans.{after_all}
 use Rattle.protocol.specs.State.{State, fresh, has, no_row, row_of, runs}
 use Rattle.protocol.specs.declared.call.Call.{Call}
 use Rattle.promises.specs.Promises.{PostIsWanted}

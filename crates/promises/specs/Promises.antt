@@ -6,7 +6,7 @@ use Rattle.network.specs.declared.message.Decision.TheVariants.{Post, Drop}
 use Rattle.network.specs.declared.message.Vote.{Vote}
 use Rattle.network.specs.declared.message.Vote.TheVariants.{Yes}
 use Rattle.rules.specs.Stages.{held}
-use Rattle.protocol.specs.Calls.{after_all, call_answer}
+use Rattle.protocol.specs.Plans.{after_all, call_answer}
 use Rattle.protocol.specs.Rest.{alive, all_clear, at_rest, on_time}
 use Rattle.protocol.specs.State.{State, has, row_of}
 use Rattle.protocol.specs.declared.call.Call.{Call}

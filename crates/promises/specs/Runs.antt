@@ -7,7 +7,7 @@ use Rattle.network.specs.declared.message.Decision.{Decision}
 use Rattle.network.specs.declared.message.Vote.{Vote}
 use Rattle.rules.specs.Entries.{obeyed}
 use Rattle.rules.specs.declared.stage.Status.TheVariants.{Running}
-use Rattle.protocol.specs.Calls.{call_after, call_answer}
+use Rattle.protocol.specs.Plans.{call_after, call_answer}
 use Rattle.protocol.specs.Rest.{on_time}
 use Rattle.protocol.specs.State.{State, fresh, has}
 use Rattle.protocol.specs.declared.call.Call.{Call}

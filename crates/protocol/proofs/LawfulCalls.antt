@@ -12,7 +12,8 @@ use Rattle.rules.specs.Ledgers.{is_in}
 use Rattle.rules.specs.Stages.{held, initial}
 use Rattle.rules.specs.declared.effect.Response.{Response}
 use Rattle.rules.specs.declared.stage.Status.TheVariants.{Restarted}
-use Rattle.protocol.specs.Calls.{answered, begin_of, call_after, call_answer, do_after, do_answer, deliver_after, deliver_answer, expire_answer, expiry_of, found_after, found_answer, looked_after, looked_answer, met, pair, plan_of_running, recovered, respond, restart_answer, restart_of, step_of, stop_of, waits, without_first}
+use Rattle.protocol.specs.Calls.{answered, do_after, do_answer, deliver_after, deliver_answer, expire_answer, expiry_of, found_after, found_answer, looked_after, looked_answer, pair, respond, restart_answer, restart_of, waits, without_first}
+use Rattle.protocol.specs.Plans.{begin_of, call_after, call_answer, met, plan_of_running, recovered, step_of, stop_of}
 use Rattle.protocol.specs.Laws.{Lawful, LawfulCall, Steady, less_first, onto}
 use Rattle.protocol.specs.Perform.{perform_after, perform_answer}
 use Rattle.protocol.specs.Refusals.{check}

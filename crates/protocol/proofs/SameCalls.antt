@@ -7,7 +7,8 @@ use Rattle.rules.specs.declared.effect.Response.{Response}
 use Rattle.rules.specs.declared.stage.Stage.TheVariants.{Preparing}
 use Rattle.rules.specs.declared.stage.Status.TheVariants.{Stopped}
 use Rattle.journals.specs.declared.entry.Entry.TheVariants.{Begin as BegunEntry}
-use Rattle.protocol.specs.Calls.{act_after, act_answer, begin_after, begin_answer, begin_of, do_after, do_answer, if_running, need, step_after, step_answer, step_of, stop_after, stop_answer, stop_of, unless_refused}
+use Rattle.protocol.specs.Calls.{act_after, act_answer, begin_after, begin_answer, do_after, do_answer, if_running, need, step_after, step_answer, stop_after, stop_answer, unless_refused}
+use Rattle.protocol.specs.Plans.{begin_of, step_of, stop_of}
 use Rattle.protocol.specs.Perform.{perform_after, perform_answer, with_row}
 use Rattle.protocol.specs.Refusals.{check}
 use Rattle.protocol.specs.State.{State, fresh, known, member_of, row_of, runs}

@@ -3,6 +3,7 @@ pub mod Calls
 pub mod Laws
 pub mod Opening
 pub mod Perform
+pub mod Plans
 pub mod Recovery
 pub mod Refusals
 pub mod Rest

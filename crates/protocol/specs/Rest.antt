@@ -2,7 +2,8 @@
 use Rattle.std.specs.Prelude.{ℕ, Bool, not, ◌&&◌, ◌||◌, is_err, Ok, Result}
 use Rattle.network.specs.Links.{look_answer}
 use Rattle.protocol.specs.Bounded.{all_below}
-use Rattle.protocol.specs.Calls.{expiry_of, step_of}
+use Rattle.protocol.specs.Calls.{expiry_of}
+use Rattle.protocol.specs.Plans.{step_of}
 use Rattle.protocol.specs.Refusals.{check}
 use Rattle.protocol.specs.State.{State, known, row_of, runs}
 use Rattle.protocol.specs.declared.fault.FloorFault.{FloorFault}

@@ -1,7 +1,7 @@
 -- What the next line does to the rest of a play.
 use Rattle.std.proofs.Common.{◌≡◌, ℕ, ◌+◌, ◌<◌, ◌≤◌, Bool, true, false, cond, eqb, List, [], ◌∷◌, ◌++◌, length, drop, Some, Result, sym, refl, ap, ◌∙◌, append_assoc, arith, length-drop}
 use Rattle.std.proofs.lemmas.List.{drop_all}
-use Rattle.protocol.specs.Calls.{after_all, call_after, call_answer}
+use Rattle.protocol.specs.Plans.{after_all, call_after, call_answer}
 use Rattle.protocol.specs.State.{State}
 use Rattle.protocol.specs.declared.call.Answer.{Answer}
 use Rattle.protocol.specs.declared.call.Call.{Call}

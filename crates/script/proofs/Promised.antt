@@ -5,7 +5,7 @@ use Rattle.journals.specs.Calls.{Entries}
 use Rattle.network.specs.Links.{Links, is_link}
 use Rattle.promises.proofs.Kept.{kept}
 use Rattle.promises.proofs.Opened.{opened_new}
-use Rattle.protocol.specs.Calls.{after_all}
+use Rattle.protocol.specs.Plans.{after_all}
 use Rattle.protocol.specs.Opening.{closed, open_answer, opened, votes_of, well_read}
 use Rattle.protocol.specs.Refusals.{check}
 use Rattle.protocol.specs.State.{State}
@@ -14,7 +14,7 @@ use Rattle.script.specs.Lines.{Lines}
 use Rattle.script.specs.Rehearsal.{RehearsalPromised, Start, StartPromised, calls_of, play_start, played_after, rehearsal_after, start_of, with_opening}
 use Rattle.script.specs.declared.fault.ScriptFault.{ScriptFault}
 
-module _ (depth : ℕ) (links : Links) (entries : Entries) (deep : 1 ≤ depth) (no-link : (q p : ℕ) → is_link q p ≡ false → links q p ≡ []) (no-ledger : (p : ℕ) → 8 ≤ p → entries p ≡ []) where
+module _ (depth : ℕ) (links : Links) (entries : Entries) (deep : 1 ≤ depth) (no_link : (q p : ℕ) → is_link q p ≡ false → links q p ≡ []) (no_ledger : (p : ℕ) → 8 ≤ p → entries p ≡ []) where
   -- an opening that is taken has two to eight ledgers
   well : (read fresh : Bool) (misread stale : FloorFault) → is_ok (check read misread (check fresh stale (Ok (tt {0})))) ≡ true → read ≡ true
   well true fresh misread stale ok = refl
@@ -36,7 +36,7 @@ module _ (depth : ℕ) (links : Links) (entries : Entries) (deep : 1 ≤ depth) 
       let n = start.first.ledgers in
       let votes = start.first.votes in
       let size = two_to_eight n votes ok in
-      let fresh = sym (cond-true (is_ok (open_answer links entries n votes)) (opened links entries n votes) (closed links entries) ok) ∙ opened_new links entries n votes no-link no-ledger ok in (
+      let fresh = sym (cond-true (is_ok (open_answer links entries n votes)) (opened links entries n votes) (closed links entries) ok) ∙ opened_new links entries n votes no_link no_ledger ok in (
         e ∙ opened_end (open_answer links entries n votes) (opened links entries n votes) start.rest ok ∙ ap (λ s. after_all depth s (calls_of start.rest.whole)) fresh,
         kept depth n (votes_of votes) (calls_of start.rest.whole) deep size.0 size.1 refl,
       )

@@ -2,7 +2,7 @@
 use Rattle.std.specs.Prelude.{◌≡◌, ℕ, ◌+◌, true, List, [], ◌∷◌, ◌++◌, length, drop, is_ok, Some, None, Ok, Err, Option, Result, nat_le}
 use Rattle.journals.specs.Calls.{Entries}
 use Rattle.network.specs.Links.{Links}
-use Rattle.protocol.specs.Calls.{after_all, call_after, call_answer}
+use Rattle.protocol.specs.Plans.{after_all, call_after, call_answer}
 use Rattle.promises.specs.Promises.{Promises}
 use Rattle.promises.specs.Runs.{new}
 use Rattle.protocol.specs.Opening.{closed, open_answer, opened, votes_of}

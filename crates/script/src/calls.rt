@@ -1,7 +1,7 @@
 // The calls of a script, one after the other.
 ghost use Rattle.std.specs.Prelude.{◌≡◌, ◌≤◌, ◌++◌, length, drop, string_bytes, OnOk};
 ghost use Rattle.floor.specs.State.{state};
-ghost use Rattle.protocol.specs.Calls.{after_all};
+ghost use Rattle.protocol.specs.Plans.{after_all};
 ghost use Rattle.script.specs.Lines.{lines_of};
 ghost use Rattle.script.specs.Rehearsal.{calls_of, calls_text, raised};
 

@@ -104,10 +104,10 @@ fn push_ledger<N: Network, J: Journals>(
     ensures { OnOk result (string_bytes text.new ≡ string_bytes text.old ++ ledger_text (state N.links J.entries floor.now) ledger) }
 {
     let Ok(standing) = floor.standing(ledger) else {
-        unreachable()
+        unreachable!()
     };
     let Ok(journals) = floor.journals_with(ledger) else {
-        unreachable()
+        unreachable!()
     };
     push_entries(heap, text, journals, ledger, standing)
 }

@@ -54,7 +54,7 @@ fn push_work<N: Network, J: Journals>(
         reason: Reason::Uncertain,
     }; 8];
     let Ok(count) = floor.worklist(&mut notes) else {
-        unreachable()
+        unreachable!()
     };
     push_notes(heap, text, &notes[0..count])?;
     let last = count_line(heap, count)?;

@@ -1,6 +1,7 @@
 // The answers of the single calls as the answer of any call.
 ghost use Rattle.std.specs.Prelude.{◌≡◌};
-ghost use Rattle.protocol.specs.Calls.{answered, met, recovered};
+ghost use Rattle.protocol.specs.Calls.{answered};
+ghost use Rattle.protocol.specs.Plans.{met, recovered};
 ghost use Rattle.protocol.specs.declared.call.Answer.TheVariants.{Done};
 
 use protocol::call::Answer;

@@ -1,7 +1,8 @@
 // The calls that carry a batch.
 ghost use Rattle.std.specs.Prelude.{◌≡◌, ◌<◌, is_err, OnOk};
 ghost use Rattle.floor.specs.State.{state};
-ghost use Rattle.protocol.specs.Calls.{begin_after, begin_answer, call_after, call_answer, do_after, do_answer, deliver_after, deliver_answer, expire_after, expire_answer, restart_after, restart_answer, step_after, step_answer, stop_after, stop_answer};
+ghost use Rattle.protocol.specs.Calls.{begin_after, begin_answer, do_after, do_answer, deliver_after, deliver_answer, expire_after, expire_answer, restart_after, restart_answer, step_after, step_answer, stop_after, stop_answer};
+ghost use Rattle.protocol.specs.Plans.{call_after, call_answer};
 ghost use Rattle.protocol.specs.Laws.{LawfulCall};
 
 use super::Floor;

@@ -1,7 +1,8 @@
 // What a call finds to do, or why it is refused.
 ghost use Rattle.std.specs.Prelude.{◌≡◌, ◌<◌, OnOk};
 ghost use Rattle.floor.specs.State.{state};
-ghost use Rattle.protocol.specs.Calls.{begin_of, expiry_of, restart_of, step_of, stop_of};
+ghost use Rattle.protocol.specs.Calls.{expiry_of, restart_of};
+ghost use Rattle.protocol.specs.Plans.{begin_of, step_of, stop_of};
 
 use super::Floor;
 use super::reads::{fresh, runs, waits};

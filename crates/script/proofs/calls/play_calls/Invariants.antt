@@ -1,6 +1,6 @@
 use Rattle.std.proofs.Common.{◌≡◌, ◌+◌, ◌-◌, ◌≤◌, ◌++◌, length, drop, string_bytes}
 use Rattle.floor.specs.State.{state}
-use Rattle.protocol.specs.Calls.{after_all}
+use Rattle.protocol.specs.Plans.{after_all}
 use Rattle.script.specs.Lines.{lines_of}
 use Rattle.script.specs.Rehearsal.{calls_of, calls_text}
 use Rattle.script.proofs.calls.play_calls.Given as goal

@@ -1,6 +1,6 @@
 use Rattle.std.proofs.Common.{is_err, sym, subst}
 use Rattle.protocol.proofs.LawfulCalls.{lawful}
-use Rattle.protocol.specs.Calls.{call_answer}
+use Rattle.protocol.specs.Plans.{call_answer}
 use Rattle.protocol.specs.Laws.{LawfulCall}
 use Rattle.floor.specs.State.{state}
 use Rattle.floor.proofs.floor.Floor.call.Goals as goal
