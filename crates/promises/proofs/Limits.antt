@@ -21,10 +21,13 @@ use Rattle.protocol.specs.Perform.{perform_answer}
 use Rattle.protocol.specs.State.{State, fresh, no_row, row_of}
 use Rattle.protocol.specs.declared.call.Call.{Call}
 use Rattle.protocol.specs.declared.call.Call.TheVariants.{Begin, Step, Deliver, Expire, Stop, Restart}
+use Rattle.protocol.specs.declared.fault.FloorFault.{FloorFault}
 use Rattle.protocol.specs.declared.fault.FloorFault.TheVariants.{Journal, Refused}
 use Rattle.protocol.specs.declared.fault.FloorRefusal.{FloorRefusal}
 use Rattle.protocol.specs.declared.fault.FloorRefusal.TheVariants.{UnknownLedger}
 use Rattle.protocol.specs.Refusals.{check}
+use Rattle.protocol.proofs.SameCalls.{begin_same, step_same, stop_same}
+use Rattle.protocol.specs.declared.call.Answer.{Answer}
 use Rattle.protocol.specs.declared.call.Answer.TheVariants.{Done}
 use Rattle.protocol.specs.declared.recovery.Finding.{Finding}
 use Rattle.promises.specs.Promises.{FewRounds, JournalsSuffice}
@@ -58,12 +61,12 @@ module _ (depth n : ℕ) (s : State) (few : n ≤ 8) (same : s.ledgers ≡ n) (r
   delivers q p false apart looked e = grind arith
 
   answers : s.ledgers ≤ length s.rows → (call : Call) → call_answer depth s call ≢ Err (Journal fault)
-  answers long Begin = carries 0 255 (begin_of s) (λ r e. (begin_rule depth s long r e).0)
-  answers long (Step p) = carries p 255 (step_of s p) (λ r e. (step_rule depth s long p r e).0)
-  answers long (Deliver q p) = delivers q p (pair s q p) refl (look_answer s.links q p)
-  answers long (Expire p q) = carries p q (expiry_of s p q) (λ r e. (expiry_rule depth s long p q r e).0)
-  answers long (Stop p) = carries p 255 (stop_of s p) (λ r e. (stop_rule depth s long p r e).0)
-  answers long (Restart p) = finds p (restart_of s p) (λ it e. (restart_rule depth s long p it e).0)
+  answers long Begin e = carries 0 255 (begin_of s) (λ r e. (begin_rule depth s long r e).0) (ap (λ (r : Result Unit FloorFault). answered {A = Answer} Done r) (begin_same depth s) ∙ e)
+  answers long (Step p) e = carries p 255 (step_of s p) (λ r e. (step_rule depth s long p r e).0) (ap (λ (r : Result Unit FloorFault). answered {A = Answer} Done r) (step_same depth s p) ∙ e)
+  answers long (Deliver q p) e = delivers q p (pair s q p) refl (look_answer s.links q p) e
+  answers long (Expire p q) e = carries p q (expiry_of s p q) (λ r e. (expiry_rule depth s long p q r e).0) e
+  answers long (Stop p) e = carries p 255 (stop_of s p) (λ r e. (stop_rule depth s long p r e).0) (ap (λ (r : Result Unit FloorFault). answered {A = Answer} Done r) (stop_same depth s p) ∙ e)
+  answers long (Restart p) e = finds p (restart_of s p) (λ it e. (restart_rule depth s long p it e).0) e
 
 module _ (depth n : ℕ) (votes : List Vote) (calls : List Call) (many : 2 ≤ n) (few : n ≤ 8) where
   pub journals_suffice : JournalsSuffice depth n votes calls

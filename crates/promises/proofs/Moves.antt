@@ -1,5 +1,5 @@
 -- What a call does to the floor: nothing, or one ledger moves.
-use Rattle.std.proofs.Common.{◌≡◌, ℕ, ◌+◌, ◌-◌, ◌^◌, ◌<◌, ◌≤◌, min, Bool, true, false, cond, ◌&&◌, ◌||◌, eqb, ◌≢◌, ◌⊎◌, List, [], ◌∷◌, ◌++◌, length, drop, is_some, is_ok, Some, Ok, Err, Result, sym, refl, ap, ◌∙◌, inl, inr, ⊎_elim, arith}
+use Rattle.std.proofs.Common.{◌≡◌, ℕ, ◌+◌, ◌-◌, ◌^◌, ◌<◌, ◌≤◌, min, Bool, true, false, cond, ◌&&◌, ◌||◌, eqb, ◌≢◌, ◌⊎◌, List, [], ◌∷◌, ◌++◌, length, drop, is_some, is_ok, Some, Ok, Err, Result, sym, refl, ap, ◌∙◌, inl, inr, ⊎_elim, arith, subst}
 use Rattle.std.proofs.lemmas.List.{length-set, get_or-set_same, get_or-set_other}
 use Rattle.std.proofs.lemmas.Bool.{and_parts, cases_eq, eq-eqb, eqb-true, ne_eqb, or_cases, or_right}
 use Rattle.std.proofs.lemmas.Bool.Decides.{nat_tests}
@@ -30,6 +30,8 @@ use Rattle.protocol.specs.Perform.{from_journals, from_network, perform_after, p
 use Rattle.protocol.specs.Recovery.{finding}
 use Rattle.protocol.specs.Refusals.{check}
 use Rattle.protocol.specs.State.{State, fresh, has, member_of, row_of, runs, stopped}
+use Rattle.protocol.proofs.SameCalls.{begin_leaves, begin_same, step_leaves, step_same, stop_leaves, stop_same}
+use Rattle.protocol.specs.declared.call.Answer.{Answer}
 use Rattle.protocol.specs.declared.call.Answer.TheVariants.{Done}
 use Rattle.protocol.specs.declared.call.Call.{Call}
 use Rattle.protocol.specs.declared.call.Call.TheVariants.{Begin, Step, Deliver, Expire, Stop, Restart}
@@ -267,6 +269,10 @@ module _ (depth : ℕ) (s : State) (long : s.ledgers ≤ length s.rows) where
       carries depth s call p input r _ (omega (arith, here.0, long)) here.0 cause here.1 first still (ok_answered Done (perform_answer depth s p r.effect))
   carry call p q input (Err refusal) rule cause first still = refused refl refl
 
+  -- a plan that is carried out is the call as it is defined
+  as_defined : {call : Call} {plan answer : Result Unit FloorFault} {t u : State} → plan ≡ answer → t ≡ u → Outcome call s t (is_ok (answered {A = Answer} Done plan)) → Outcome call s u (is_ok (answered {A = Answer} Done answer))
+  as_defined {call} {plan} {answer} {t} {u} e f it = subst (λ v. Outcome call s v (is_ok (answered {A = Answer} Done answer))) f (subst (λ r. Outcome call s t (is_ok (answered {A = Answer} Done r))) e it)
+
   pub begin_rule : (r : Response) → begin_of s ≡ Ok r → (0 < s.ledgers) × Rule (member_of s 0) (row_of s 0) (s.entries 0) begins r
   begin_rule r e = grind (arith, nat_tests)
 
@@ -360,11 +366,11 @@ module _ (depth : ℕ) (s : State) (long : s.ledgers ≤ length s.rows) where
     deliver false e = refused refl refl
 
   pub outcome : (call : Call) → Outcome call s (call_after depth s call) (taken depth s call)
-  outcome Begin = carry Begin 0 255 begins (begin_of s) begin_rule (refl, refl) tt (λ a b link. refl)
-  outcome (Step p) = carry (Step p) p 255 steps (step_of s p) (step_rule p) (refl, refl) tt (λ a b link. refl)
+  outcome Begin = as_defined (begin_same depth s) (begin_leaves depth s) (carry Begin 0 255 begins (begin_of s) begin_rule (refl, refl) tt (λ a b link. refl))
+  outcome (Step p) = as_defined (step_same depth s p) (step_leaves depth s p) (carry (Step p) p 255 steps (step_of s p) (step_rule p) (refl, refl) tt (λ a b link. refl))
   outcome (Deliver q p) = deliver q p _ refl
   outcome (Expire p q) = carry (Expire p q) p q (expires q) (expiry_of s p q) (expiry_rule p q) (refl, refl) tt (λ a b link. refl)
-  outcome (Stop p) = carry (Stop p) p 255 stops (stop_of s p) (stop_rule p) (refl, refl) tt (λ a b link. refl)
+  outcome (Stop p) = as_defined (stop_same depth s p) (stop_leaves depth s p) (carry (Stop p) p 255 stops (stop_of s p) (stop_rule p) (refl, refl) tt (λ a b link. refl))
   outcome (Restart p) = restart p _ refl
 
 -- the table and the votes stay

@@ -26,6 +26,8 @@ use Rattle.protocol.specs.Perform.{perform_answer}
 use Rattle.protocol.specs.Refusals.{check}
 use Rattle.protocol.specs.Rest.{all_clear, at_rest, clear, clear_from, idle, on_time, patient, unmissed}
 use Rattle.protocol.specs.State.{State, has, member_of, row_of, runs}
+use Rattle.protocol.proofs.SameCalls.{step_same}
+use Rattle.protocol.specs.declared.call.Answer.{Answer}
 use Rattle.protocol.specs.declared.call.Answer.TheVariants.{Done}
 use Rattle.protocol.specs.declared.call.Call.{Call}
 use Rattle.protocol.specs.declared.call.Call.TheVariants.{Step, Deliver, Expire}
@@ -192,7 +194,7 @@ module _ (depth n : ℕ) (deep : 1 ≤ depth) (votes : List Vote) (many : 2 ≤ 
   steps_on : all_clear s ≡ true → all_below (idle s) s.ledgers ≡ false → (call : Call) × NextHere call
   steps_on none some =
       let it = some_below (idle s) s.ledgers some in
-      (Step it.0, (carried none it.0 255 steps (step_of s it.0) it.2 (step_rule depth s long it.0), inl (it.0, refl)))
+      (Step it.0, (sym (ap (λ (r : Result Unit FloorFault). is_ok (answered {A = Answer} Done r)) (step_same depth s it.0)) ∙ carried none it.0 255 steps (step_of s it.0) it.2 (step_rule depth s long it.0), inl (it.0, refl)))
 
   expires_on : all_clear s ≡ true → all_below (unmissed s) s.ledgers ≡ false → (call : Call) × NextHere call
   expires_on none some =

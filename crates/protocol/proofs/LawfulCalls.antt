@@ -12,7 +12,7 @@ use Rattle.rules.specs.Ledgers.{is_in}
 use Rattle.rules.specs.Stages.{held, initial}
 use Rattle.rules.specs.declared.effect.Response.{Response}
 use Rattle.rules.specs.declared.stage.Status.TheVariants.{Restarted}
-use Rattle.protocol.specs.Calls.{answered, do_after, do_answer, deliver_after, deliver_answer, expire_answer, expiry_of, found_after, found_answer, looked_after, looked_answer, pair, respond, restart_answer, restart_of, waits, without_first}
+use Rattle.protocol.specs.Calls.{answered, begin_answer, do_after, do_answer, deliver_after, deliver_answer, expire_answer, expiry_of, found_after, found_answer, looked_after, looked_answer, pair, respond, restart_answer, restart_of, step_answer, stop_answer, waits, without_first}
 use Rattle.protocol.specs.Plans.{begin_of, call_after, call_answer, met, plan_of_running, recovered, step_of, stop_of}
 use Rattle.protocol.specs.Laws.{Lawful, LawfulCall, Steady, less_first, onto}
 use Rattle.protocol.specs.Perform.{perform_after, perform_answer}
@@ -30,6 +30,7 @@ use Rattle.protocol.specs.declared.fault.FloorRefusal.TheVariants.{UnknownLedger
 use Rattle.protocol.specs.declared.recovery.Finding.{Finding}
 use Rattle.protocol.specs.declared.recovery.Recovery.{Recovery}
 use Rattle.protocol.proofs.Lawful.{performs, unchanged}
+use Rattle.protocol.proofs.SameCalls.{begin_leaves, begin_same, step_leaves, step_same, stop_leaves, stop_same}
 use Rattle.protocol.proofs.SteadyRows.{expiry_status, initial_undecided, message_steady, out_steady, step_steady, undecided_steady}
 
 -- what p sends goes onto no link of another
@@ -177,10 +178,14 @@ module _ (depth : ℕ) (s : State) where
   told : {p : ℕ} {named : ℕ → ℕ → Bool} {t : State} {one other : Bool} → one ≡ other → Lawful p named one s t → Lawful p named other s t
   told {p} {named} {t} e law = subst (λ refused. Lawful p named refused s t) e law
 
+  -- a plan that is carried out is the call as it is defined
+  as_defined : {p : ℕ} {named : ℕ → ℕ → Bool} {plan answer : Result Unit FloorFault} {t u : State} → plan ≡ answer → t ≡ u → Lawful p named (is_err plan) s t → Lawful p named (is_err answer) s u
+  as_defined {p} {named} {plan} {answer} {t} {u} e f law = subst (λ v. Lawful p named (is_err answer) s v) f (subst (λ r. Lawful p named (is_err r) s t) e law)
+
   pub lawful : (call : Call) → LawfulCall call (is_err (call_answer depth s call)) s (call_after depth s call)
-  lawful Begin = told (answered_err Done (do_answer depth s 0 255 (begin_of s))) (carried 0 255 _ (begin_of s) (begin_of_steady s))
-  lawful (Step p) = told (answered_err Done (do_answer depth s p 255 (step_of s p))) (carried p 255 _ (step_of s p) (step_of_steady s p))
+  lawful Begin = told (answered_err Done (begin_answer depth s)) (as_defined (begin_same depth s) (begin_leaves depth s) (carried 0 255 _ (begin_of s) (begin_of_steady s)))
+  lawful (Step p) = told (answered_err Done (step_answer depth s p)) (as_defined (step_same depth s p) (step_leaves depth s p) (carried p 255 _ (step_of s p) (step_of_steady s p)))
   lawful (Deliver q p) = told (met_err (deliver_answer depth s q p)) (delivered q p)
   lawful (Expire p q) = told (answered_err Done (expire_answer depth s p q)) (carried p q _ (expiry_of s p q) (expiry_of_steady s p q))
-  lawful (Stop p) = told (answered_err Done (do_answer depth s p 255 (stop_of s p))) (carried p 255 _ (stop_of s p) (stop_of_steady s p))
+  lawful (Stop p) = told (answered_err Done (stop_answer s p)) (as_defined (stop_same depth s p) (stop_leaves depth s p) (carried p 255 _ (stop_of s p) (stop_of_steady s p)))
   lawful (Restart p) = told (recovered_err (restart_answer depth s p)) (restarted p _ (restart_of s p))

@@ -8,7 +8,7 @@ use Rattle.rules.specs.declared.effect.Effect.TheVariants.{Write}
 use Rattle.rules.specs.declared.effect.Response.{Response}
 use Rattle.rules.specs.declared.stage.Stage.TheVariants.{Preparing}
 use Rattle.rules.specs.declared.stage.Status.TheVariants.{Stopped}
-use Rattle.protocol.specs.Calls.{answered, deliver_after, deliver_answer, do_after, do_answer, expire_after, expire_answer, need, restart_after, restart_answer}
+use Rattle.protocol.specs.Calls.{answered, begin_after, begin_answer, deliver_after, deliver_answer, expire_after, expire_answer, need, restart_after, restart_answer, step_after, step_answer, stop_after, stop_answer}
 use Rattle.protocol.specs.State.{State, fresh, known, member_of, row_of, runs}
 use Rattle.protocol.specs.declared.call.Answer.{Answer}
 use Rattle.protocol.specs.declared.call.Answer.TheVariants.{Done, Message as Met, Recovered}
@@ -45,19 +45,19 @@ recovered (Ok recovery) = Ok (Recovered recovery)
 recovered (Err fault) = Err fault
 
 abbrev pub call_answer : ℕ → State → Call → Result Answer FloorFault
-call_answer depth s Begin = answered Done (do_answer depth s 0 255 (begin_of s))
-call_answer depth s (Step p) = answered Done (do_answer depth s p 255 (step_of s p))
+call_answer depth s Begin = answered Done (begin_answer depth s)
+call_answer depth s (Step p) = answered Done (step_answer depth s p)
 call_answer depth s (Deliver q p) = met (deliver_answer depth s q p)
 call_answer depth s (Expire p q) = answered Done (expire_answer depth s p q)
-call_answer depth s (Stop p) = answered Done (do_answer depth s p 255 (stop_of s p))
+call_answer depth s (Stop p) = answered Done (stop_answer s p)
 call_answer depth s (Restart p) = recovered (restart_answer depth s p)
 
 abbrev pub call_after : ℕ → State → Call → State
-call_after depth s Begin = do_after depth s 0 (begin_of s)
-call_after depth s (Step p) = do_after depth s p (step_of s p)
+call_after depth s Begin = begin_after depth s
+call_after depth s (Step p) = step_after depth s p
 call_after depth s (Deliver q p) = deliver_after depth s q p
 call_after depth s (Expire p q) = expire_after depth s p q
-call_after depth s (Stop p) = do_after depth s p (stop_of s p)
+call_after depth s (Stop p) = stop_after s p
 call_after depth s (Restart p) = restart_after depth s p
 
 -- the floor after these calls, one after the other, each taken or refused
