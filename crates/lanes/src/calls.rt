@@ -42,7 +42,7 @@ impl Lanes {
 impl Network for Lanes {
     const DEPTH: usize = SLOTS;
 
-    ghost depth = { 4 };
+    ghost DEPTH = { 4 };
 
     ghost links = { links_of };
 

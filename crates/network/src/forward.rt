@@ -7,8 +7,8 @@ use crate::link::{Link, Network};
 
 // Moves the first message of one link to the end of another.
 pub fn forward<N: Network>(network: &mut N, from: Link, to: Link) -> Result<(), NetworkFault>
-    ensures answer { result ≡ one_answer N.depth (N.links network.old) from to }
-    ensures after { N.links network.new ≡ one_after N.depth (N.links network.old) from to }
+    ensures answer { result ≡ one_answer N.DEPTH (N.links network.old) from to }
+    ensures after { N.links network.new ≡ one_after N.DEPTH (N.links network.old) from to }
 {
     let message = network.look(from.sender, from.receiver)?;
     network.put(to.sender, to.receiver, message)?;
@@ -24,9 +24,9 @@ pub fn forward_all<N: Network>(
     to: Link,
     most: usize,
 ) -> Result<(), NetworkFault>
-    ensures answer { result ≡ all_answer most N.depth (N.links network.old) from to }
+    ensures answer { result ≡ all_answer most N.DEPTH (N.links network.old) from to }
     ensures together { Together (N.links network.old) (N.links network.new) from to }
-    ensures after { N.links network.new ≡ all_after most N.depth (N.links network.old) from to }
+    ensures after { N.links network.new ≡ all_after most N.DEPTH (N.links network.old) from to }
 {
     for _moved in 0..most {
         forward(network, from, to)?;

@@ -32,20 +32,20 @@ pub trait Network {
     // How many messages a link holds at the most.
     const DEPTH: usize;
 
-    ghost depth: { ℕ };
+    ghost DEPTH: { ℕ };
 
     // The messages on their way from one ledger to another, the oldest first.
     ghost links: { Self → ℕ → ℕ → List Message };
 
-    // `DEPTH`, which is what the contracts call the depth.
+    // `DEPTH`, which is at least one.
     fn link_depth() -> usize
-        ensures value { result ≡ depth }
+        ensures value { result ≡ DEPTH }
         ensures bound { 1 ≤ result };
 
     // Adds the message at the end of the link.
     fn put(&mut self, sender: u8, receiver: u8, message: Message) -> Result<(), NetworkFault>
-        ensures answer { result ≡ put_answer depth (links self.old) sender receiver }
-        ensures after { links self.new ≡ put_after depth (links self.old) sender receiver message };
+        ensures answer { result ≡ put_answer DEPTH (links self.old) sender receiver }
+        ensures after { links self.new ≡ put_after DEPTH (links self.old) sender receiver message };
 
     // Removes the first message of the link, and answers it.
     fn take(&mut self, sender: u8, receiver: u8) -> Result<Message, NetworkFault>
@@ -60,9 +60,9 @@ pub trait Network {
     fn count(&self, sender: u8, receiver: u8) -> Result<usize, NetworkFault>
         ensures { result ≡ count_answer (links self.now) sender receiver };
 
-    ghost deep: { 1 ≤ depth };
+    ghost deep: { 1 ≤ DEPTH };
 
-    ghost short: { (n : Self) (q p : ℕ) → length (links n q p) ≤ depth };
+    ghost short: { (n : Self) (q p : ℕ) → length (links n q p) ≤ DEPTH };
 
     ghost bounded: { (n : Self) (q p : ℕ) → is_link q p ≡ false → links n q p ≡ [] };
 }

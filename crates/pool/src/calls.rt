@@ -90,7 +90,7 @@ impl Pool {
 impl Network for Pool {
     const DEPTH: usize = 2;
 
-    ghost depth = { 2 };
+    ghost DEPTH = { 2 };
 
     ghost links = { links_of };
 

@@ -69,7 +69,7 @@ pub fn list_work<N: Network + Drop, J: Journals + Drop>(
     journals: J,
     script: &[u8],
 ) -> Result<String, AllocError>
-    ensures { IfOk result (λ text. string_bytes text ≡ work_text N.depth (N.links network) (J.entries journals) script.now) }
+    ensures { IfOk result (λ text. string_bytes text ≡ work_text N.DEPTH (N.links network) (J.entries journals) script.now) }
 {
     let Rehearsal {
         floor,

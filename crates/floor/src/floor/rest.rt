@@ -148,7 +148,7 @@ impl<N: Network, J: Journals> Floor<N, J> {
     // No message is on its way, no running ledger has an act left, and no on-time expiry would be taken.
     pub fn is_at_rest(&self) -> bool
         ensures answer { result ≡ at_rest (state N.links J.entries self.now) }
-        ensures promises { Promised N.depth (state N.links J.entries self.now) }
+        ensures promises { Promised N.DEPTH (state N.links J.entries self.now) }
     {
         self.rests()
     }

@@ -6,7 +6,7 @@ use Rattle.network.proofs.forward.forward_all.Goals as goal
 
 pub returns-in_err-forward : goal.returns-in_err-forward
 returns-in_err-forward g c =
-    let depth = g.N.Network.depth in
+    let depth = g.N.Network.DEPTH in
     let L = g.N.Network.links c.loop-moved.network in
     let fault = c.in_err-forward.field-0.0 in
     let i = c.loop-moved._moved in
@@ -22,7 +22,7 @@ returns-in_err-forward g c =
 
 pub loop-moved-preserved : goal.loop-moved-preserved
 loop-moved-preserved g c =
-    let depth = g.N.Network.depth in
+    let depth = g.N.Network.DEPTH in
     let L = g.N.Network.links c.loop-moved.network in
     let i = c.loop-moved._moved in
     let left = c.args.most - (c.loop-moved._moved + 1) in
@@ -35,7 +35,7 @@ loop-moved-preserved g c =
 
 pub returns : goal.returns
 returns g c =
-    let depth = g.N.Network.depth in
+    let depth = g.N.Network.DEPTH in
     let L = g.N.Network.links c.loop-moved.network in
     let none : c.args.most - c.loop-moved._moved ≡ 0 = omega arith in
     let after = sym (ap (λ n. all_after n depth L c.args.from c.args.to) none) ∙ c.loop-moved.invariant.1 in

@@ -8,7 +8,7 @@ use Rattle.script.proofs.calls.play_calls.Goals as goal
 
 pub loop-line-preserved : goal.loop-line-preserved
 loop-line-preserved g c =
-    let depth = g.N.Network.depth in
+    let depth = g.N.Network.DEPTH in
     let s = state g.N.Network.links g.J.Journals.entries c.loop-line.floor in
     let script = c.args.script.now in
     let k = c.loop-line.number in
@@ -24,7 +24,7 @@ loop-line-preserved g c =
 
 pub returns-in_ok-push_fault-2 : goal.returns-in_ok-push_fault-2
 returns-in_ok-push_fault-2 g c =
-    let depth = g.N.Network.depth in
+    let depth = g.N.Network.DEPTH in
     let s = state g.N.Network.links g.J.Journals.entries c.loop-line.floor in
     let script = c.args.script.now in
     let k = c.loop-line.number in
@@ -37,7 +37,7 @@ returns-in_ok-push_fault-2 g c =
 
 pub returns-else-start-script : goal.returns-else-start-script
 returns-else-start-script g c =
-    let depth = g.N.Network.depth in
+    let depth = g.N.Network.DEPTH in
     let s = state g.N.Network.links g.J.Journals.entries c.loop-line.floor in
     let script = c.args.script.now in
     let k = c.loop-line.number in

@@ -8,7 +8,7 @@ use Rattle.script.proofs.calls.play_calls.Given as goal
 -- what is left comes to the same as all of it
 abbrev pub invariant-loop-line : goal.invariant-loop-line
 invariant-loop-line g l =
-    let depth = g.N.Network.depth in
+    let depth = g.N.Network.DEPTH in
     let now = state g.N.Network.links g.J.Journals.entries l.floor in
     let then = state g.N.Network.links g.J.Journals.entries l.initial.floor in
     let left = lines_of (drop l.start l.script) in

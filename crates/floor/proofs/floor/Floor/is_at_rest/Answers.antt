@@ -5,5 +5,5 @@ pub returns : goal.returns
 returns g c =
     record {
       answer = c.rests.ensures;
-      promises = λ n votes calls many few whole run. kept g.N.Network.depth n votes calls g.met.N.Network.deep many few whole;
+      promises = λ n votes calls many few whole run. kept g.N.Network.DEPTH n votes calls g.met.N.Network.deep many few whole;
     }
