@@ -1,15 +1,15 @@
 -- What a floor means: the state that is read off it.
-use Rattle.journals.specs.Calls.{Entries}
-use Rattle.network.specs.Links.{Links}
+use Rattle.journals.specs.declared.set.Journals.{Ghosts as AnyJournals}
+use Rattle.network.specs.declared.link.Network.{Ghosts as AnyNetwork}
 use Rattle.protocol.specs.State.{State}
 use Rattle.floor.specs.declared.floor.Floor.{Floor}
 
-abbrev pub state : {N J : Type 0} {network : _} {journals : _} → (N → Links) → (J → Entries) → Floor N J network journals → State
-state links entries floor = record {
+abbrev pub state : {N J : Type 0} {network : AnyNetwork N} {journals : AnyJournals J} → Floor N J network journals → State
+state {network = network} {journals = journals} floor = record {
   ledgers = floor.ledgers;
   votes = floor.votes;
   rows = floor.rows;
-  links = links floor.network;
-  entries = entries floor.journals;
+  links = network.links floor.network;
+  entries = journals.entries floor.journals;
   sent = floor.sent;
 }

@@ -32,8 +32,8 @@ pub(crate) fn play_calls<N: Network, J: Journals>(
     first: usize,
 ) -> Result<(), AllocError>
     requires { length script.now ≤ 65536 }
-    ensures text { OnOk result (string_bytes text.new ≡ string_bytes text.old ++ calls_text N.DEPTH (state N.links J.entries floor.old) 2 (lines_of (drop first script.now)).whole (lines_of (drop first script.now)).left) }
-    ensures floor { OnOk result (state N.links J.entries floor.new ≡ after_all N.DEPTH (state N.links J.entries floor.old) (calls_of (lines_of (drop first script.now)).whole)) }
+    ensures text { OnOk result (string_bytes text.new ≡ string_bytes text.old ++ calls_text N.DEPTH (state floor.old) 2 (lines_of (drop first script.now)).whole (lines_of (drop first script.now)).left) }
+    ensures floor { OnOk result (state floor.new ≡ after_all N.DEPTH (state floor.old) (calls_of (lines_of (drop first script.now)).whole)) }
 {
     let mut start = first;
     let mut number = 2;

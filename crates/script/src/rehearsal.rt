@@ -28,9 +28,9 @@ pub fn rehearse<N: Network + Drop, J: Journals + Drop>(
     script: &[u8],
 ) -> Result<Rehearsal<N, J>, AllocError>
     ensures text { IfOk result (λ it. string_bytes it.text ≡ rehearsal_text N.DEPTH (N.links network) (J.entries journals) script.now) }
-    ensures floor { IfOk result (λ it. state N.links J.entries it.floor ≡ rehearsal_after N.DEPTH (N.links network) (J.entries journals) script.now) }
+    ensures floor { IfOk result (λ it. state it.floor ≡ rehearsal_after N.DEPTH (N.links network) (J.entries journals) script.now) }
     ensures opened { IfOk result (λ it. it.opened ≡ is_ok (play_of (N.links network) (J.entries journals) script.now)) }
-    ensures promises { IfOk result (λ it. RehearsalPromised N.DEPTH (N.links network) (J.entries journals) script.now (state N.links J.entries it.floor)) }
+    ensures promises { IfOk result (λ it. RehearsalPromised N.DEPTH (N.links network) (J.entries journals) script.now (state it.floor)) }
 {
     rehearsed(heap, network, journals, script)
 }
@@ -42,7 +42,7 @@ fn rehearsed<N: Network + Drop, J: Journals + Drop>(
     script: &[u8],
 ) -> Result<Rehearsal<N, J>, AllocError>
     ensures text { IfOk result (λ it. string_bytes it.text ≡ rehearsal_text N.DEPTH (N.links network) (J.entries journals) script.now) }
-    ensures floor { IfOk result (λ it. state N.links J.entries it.floor ≡ rehearsal_after N.DEPTH (N.links network) (J.entries journals) script.now) }
+    ensures floor { IfOk result (λ it. state it.floor ≡ rehearsal_after N.DEPTH (N.links network) (J.entries journals) script.now) }
     ensures opened { IfOk result (λ it. it.opened ≡ is_ok (play_of (N.links network) (J.entries journals) script.now)) }
 {
     let Started { mut floor, answer } = open_script(network, journals, script);

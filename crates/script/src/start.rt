@@ -52,7 +52,7 @@ pub(crate) struct Started<N: Network, J: Journals> {
 
 // A floor that knows no ledger.
 fn closed_floor<N: Network, J: Journals>(network: N, journals: J) -> Floor<N, J>
-    ensures { state N.links J.entries result ≡ closed (N.links network) (J.entries journals) }
+    ensures { state result ≡ closed (N.links network) (J.entries journals) }
 {
     let Opening { floor, answer: _ } = Floor::open(network, journals, 0, &[]);
     floor
@@ -62,7 +62,7 @@ fn closed_floor<N: Network, J: Journals>(network: N, journals: J) -> Floor<N, J>
 fn open_floor<N: Network, J: Journals>(network: N, journals: J, first: FirstLine) -> Opening<N, J>
     requires { first.ledgers ≤ 9 }
     ensures answer { result.answer ≡ open_answer (N.links network) (J.entries journals) (first_of first).ledgers (first_of first).votes }
-    ensures after { state N.links J.entries result.floor ≡ open_after (N.links network) (J.entries journals) (first_of first).ledgers (first_of first).votes }
+    ensures after { state result.floor ≡ open_after (N.links network) (J.entries journals) (first_of first).ledgers (first_of first).votes }
 {
     let votes = first.votes;
     Floor::open(
@@ -79,7 +79,7 @@ pub(crate) fn open_script<N: Network, J: Journals>(
     journals: J,
     script: &[u8],
 ) -> Started<N, J>
-    ensures { MatchResult result.answer (λ next. (play_of (N.links network) (J.entries journals) script.now ≡ Ok (record { floor = state N.links J.entries result.floor; lines = lines_of (drop next script.now) })) × (length script.now ≤ 65536)) (λ fault. (play_of (N.links network) (J.entries journals) script.now ≡ Err fault) × (state N.links J.entries result.floor ≡ closed (N.links network) (J.entries journals))) }
+    ensures { MatchResult result.answer (λ next. (play_of (N.links network) (J.entries journals) script.now ≡ Ok (record { floor = state result.floor; lines = lines_of (drop next script.now) })) × (length script.now ≤ 65536)) (λ fault. (play_of (N.links network) (J.entries journals) script.now ≡ Err fault) × (state result.floor ≡ closed (N.links network) (J.entries journals))) }
 {
     match start_line(script) {
         Ok(start) => {

@@ -100,8 +100,8 @@ fn push_ledger<N: Network, J: Journals>(
     floor: &Floor<N, J>,
     ledger: u8,
 ) -> Result<(), AllocError>
-    requires { known (state N.links J.entries floor.now) ledger ≡ true }
-    ensures { OnOk result (string_bytes text.new ≡ string_bytes text.old ++ ledger_text (state N.links J.entries floor.now) ledger) }
+    requires { known (state floor.now) ledger ≡ true }
+    ensures { OnOk result (string_bytes text.new ≡ string_bytes text.old ++ ledger_text (state floor.now) ledger) }
 {
     let Ok(standing) = floor.standing(ledger) else {
         unreachable!()
@@ -124,7 +124,7 @@ pub(crate) fn push_end<N: Network, J: Journals>(
     text: &mut String,
     floor: &Floor<N, J>,
 ) -> Result<(), AllocError>
-    ensures { OnOk result (string_bytes text.new ≡ string_bytes text.old ++ end_text (state N.links J.entries floor.now)) }
+    ensures { OnOk result (string_bytes text.new ≡ string_bytes text.old ++ end_text (state floor.now)) }
 {
     for ledger in 0..floor.ledgers() {
         push_ledger(heap, text, floor, ledger as u8)?;

@@ -47,7 +47,7 @@ fn push_work<N: Network, J: Journals>(
     text: &mut String,
     floor: &Floor<N, J>,
 ) -> Result<(), AllocError>
-    ensures { OnOk result (string_bytes text.new ≡ string_bytes text.old ++ settle_text (state N.links J.entries floor.now)) }
+    ensures { OnOk result (string_bytes text.new ≡ string_bytes text.old ++ settle_text (state floor.now)) }
 {
     let mut notes = [Note {
         ledger: 0,

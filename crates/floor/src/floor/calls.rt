@@ -28,8 +28,8 @@ impl<N: Network, J: Journals> Floor<N, J> {
         plan: Result<Response, FloorRefusal>,
     ) -> Result<(), FloorFault>
         requires { OnOk plan (ledger < 8) }
-        ensures answer { result ≡ do_answer N.DEPTH (state N.links J.entries self.old) ledger other plan }
-        ensures after { state N.links J.entries self.new ≡ do_after N.DEPTH (state N.links J.entries self.old) ledger plan }
+        ensures answer { result ≡ do_answer N.DEPTH (state self.old) ledger other plan }
+        ensures after { state self.new ≡ do_after N.DEPTH (state self.old) ledger plan }
     {
         match plan {
             Ok(response) => self.perform(ledger, response),
@@ -39,8 +39,8 @@ impl<N: Network, J: Journals> Floor<N, J> {
 
     // The coordinator begins the batch.
     pub fn begin(&mut self) -> Result<(), FloorFault>
-        ensures answer { result ≡ begin_answer N.DEPTH (state N.links J.entries self.old) }
-        ensures after { state N.links J.entries self.new ≡ begin_after N.DEPTH (state N.links J.entries self.old) }
+        ensures answer { result ≡ begin_answer N.DEPTH (state self.old) }
+        ensures after { state self.new ≡ begin_after N.DEPTH (state self.old) }
     {
         let plan = self.begin_of();
         self.carry_out(0, NO_LEDGER, plan)
@@ -48,8 +48,8 @@ impl<N: Network, J: Journals> Floor<N, J> {
 
     // One act of a ledger.
     pub fn step(&mut self, ledger: u8) -> Result<(), FloorFault>
-        ensures answer { result ≡ step_answer N.DEPTH (state N.links J.entries self.old) ledger }
-        ensures after { state N.links J.entries self.new ≡ step_after N.DEPTH (state N.links J.entries self.old) ledger }
+        ensures answer { result ≡ step_answer N.DEPTH (state self.old) ledger }
+        ensures after { state self.new ≡ step_after N.DEPTH (state self.old) ledger }
     {
         let plan = self.step_of(ledger);
         self.carry_out(ledger, NO_LEDGER, plan)
@@ -57,8 +57,8 @@ impl<N: Network, J: Journals> Floor<N, J> {
 
     // A ledger notices that another does not answer.
     pub fn expire(&mut self, ledger: u8, silent: u8) -> Result<(), FloorFault>
-        ensures answer { result ≡ expire_answer N.DEPTH (state N.links J.entries self.old) ledger silent }
-        ensures after { state N.links J.entries self.new ≡ expire_after N.DEPTH (state N.links J.entries self.old) ledger silent }
+        ensures answer { result ≡ expire_answer N.DEPTH (state self.old) ledger silent }
+        ensures after { state self.new ≡ expire_after N.DEPTH (state self.old) ledger silent }
     {
         let plan = self.expiry_of(ledger, silent);
         self.carry_out(ledger, silent, plan)
@@ -66,8 +66,8 @@ impl<N: Network, J: Journals> Floor<N, J> {
 
     // The ledger's machine stops: its stage is lost, its journal and what it sent remain.
     pub fn stop(&mut self, ledger: u8) -> Result<(), FloorFault>
-        ensures answer { result ≡ stop_answer (state N.links J.entries self.old) ledger }
-        ensures after { state N.links J.entries self.new ≡ stop_after (state N.links J.entries self.old) ledger }
+        ensures answer { result ≡ stop_answer (state self.old) ledger }
+        ensures after { state self.new ≡ stop_after (state self.old) ledger }
     {
         let plan = self.stop_of(ledger);
         self.carry_out(ledger, NO_LEDGER, plan)
@@ -75,8 +75,8 @@ impl<N: Network, J: Journals> Floor<N, J> {
 
     // Takes the first message on its way to a ledger, and has that ledger act on it.
     pub fn deliver(&mut self, sender: u8, receiver: u8) -> Result<Delivery, FloorFault>
-        ensures answer { result ≡ deliver_answer N.DEPTH (state N.links J.entries self.old) sender receiver }
-        ensures after { state N.links J.entries self.new ≡ deliver_after N.DEPTH (state N.links J.entries self.old) sender receiver }
+        ensures answer { result ≡ deliver_answer N.DEPTH (state self.old) sender receiver }
+        ensures after { state self.new ≡ deliver_after N.DEPTH (state self.old) sender receiver }
     {
         self.check_pair(sender, receiver)?;
         let message = self.network.look(sender, receiver)?;
@@ -97,8 +97,8 @@ impl<N: Network, J: Journals> Floor<N, J> {
 
     // The ledger's machine starts again: it tells what its journal says, and stays out of the batch.
     pub fn restart(&mut self, ledger: u8) -> Result<Recovery, FloorFault>
-        ensures answer { result ≡ restart_answer N.DEPTH (state N.links J.entries self.old) ledger }
-        ensures after { state N.links J.entries self.new ≡ restart_after N.DEPTH (state N.links J.entries self.old) ledger }
+        ensures answer { result ≡ restart_answer N.DEPTH (state self.old) ledger }
+        ensures after { state self.new ≡ restart_after N.DEPTH (state self.old) ledger }
     {
         match self.restart_of(ledger) {
             Ok(found) => {
@@ -114,8 +114,8 @@ impl<N: Network, J: Journals> Floor<N, J> {
     }
 
     fn dispatch(&mut self, call: Call) -> Result<Answer, FloorFault>
-        ensures answer { result ≡ call_answer N.DEPTH (state N.links J.entries self.old) call }
-        ensures after { state N.links J.entries self.new ≡ call_after N.DEPTH (state N.links J.entries self.old) call }
+        ensures answer { result ≡ call_answer N.DEPTH (state self.old) call }
+        ensures after { state self.new ≡ call_after N.DEPTH (state self.old) call }
     {
         match call {
             Call::Begin => done(self.begin()),
@@ -129,9 +129,9 @@ impl<N: Network, J: Journals> Floor<N, J> {
 
     // Any of these calls, with the laws that all of them keep to.
     pub fn call(&mut self, call: Call) -> Result<Answer, FloorFault>
-        ensures answer { result ≡ call_answer N.DEPTH (state N.links J.entries self.old) call }
-        ensures after { state N.links J.entries self.new ≡ call_after N.DEPTH (state N.links J.entries self.old) call }
-        ensures lawful { LawfulCall call (is_err result) (state N.links J.entries self.old) (state N.links J.entries self.new) }
+        ensures answer { result ≡ call_answer N.DEPTH (state self.old) call }
+        ensures after { state self.new ≡ call_after N.DEPTH (state self.old) call }
+        ensures lawful { LawfulCall call (is_err result) (state self.old) (state self.new) }
     {
         self.dispatch(call)
     }

@@ -91,7 +91,7 @@ fn check_opening<N: Network, J: Journals>(
 impl<N: Network, J: Journals> Floor<N, J> {
     fn opened_or_closed(network: N, journals: J, ledgers: u8, votes: &[u8]) -> Opening<N, J>
         ensures answer { result.answer ≡ open_answer (N.links network) (J.entries journals) ledgers votes.now }
-        ensures after { state N.links J.entries result.floor ≡ open_after (N.links network) (J.entries journals) ledgers votes.now }
+        ensures after { state result.floor ≡ open_after (N.links network) (J.entries journals) ledgers votes.now }
     {
         let answer = check_opening(&network, &journals, ledgers, votes);
         let floor = match answer {
@@ -118,8 +118,8 @@ impl<N: Network, J: Journals> Floor<N, J> {
     // Opens a floor over a network and journals that hold nothing yet.
     pub fn open(network: N, journals: J, ledgers: u8, votes: &[u8]) -> Opening<N, J>
         ensures answer { result.answer ≡ open_answer (N.links network) (J.entries journals) ledgers votes.now }
-        ensures after { state N.links J.entries result.floor ≡ open_after (N.links network) (J.entries journals) ledgers votes.now }
-        ensures fresh { is_ok result.answer ≡ true → state N.links J.entries result.floor ≡ new ledgers (votes_of votes.now) }
+        ensures after { state result.floor ≡ open_after (N.links network) (J.entries journals) ledgers votes.now }
+        ensures fresh { is_ok result.answer ≡ true → state result.floor ≡ new ledgers (votes_of votes.now) }
     {
         Floor::opened_or_closed(network, journals, ledgers, votes)
     }

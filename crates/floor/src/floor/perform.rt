@@ -14,7 +14,7 @@ impl<N: Network, J: Journals> Floor<N, J> {
     // Every change of a row comes in here: the table lends that row and no other.
     pub(super) fn store(&mut self, ledger: u8, row: Row)
         requires { ledger < 8 }
-        ensures { state N.links J.entries self.new ≡ with_row (state N.links J.entries self.old) ledger row }
+        ensures { state self.new ≡ with_row (state self.old) ledger row }
     {
         self.rows[ledger as usize].follow(row);
     }
@@ -22,8 +22,8 @@ impl<N: Network, J: Journals> Floor<N, J> {
     // The entry or the message first, and then the row: where either is refused, nothing has changed.
     pub(super) fn perform(&mut self, ledger: u8, response: Response) -> Result<(), FloorFault>
         requires { ledger < 8 }
-        ensures answer { result ≡ perform_answer N.DEPTH (state N.links J.entries self.old) ledger response.effect }
-        ensures after { state N.links J.entries self.new ≡ perform_after N.DEPTH (state N.links J.entries self.old) ledger response.row response.effect }
+        ensures answer { result ≡ perform_answer N.DEPTH (state self.old) ledger response.effect }
+        ensures after { state self.new ≡ perform_after N.DEPTH (state self.old) ledger response.row response.effect }
     {
         match response.effect {
             Effect::Nothing => {

@@ -17,7 +17,7 @@ use rules::stage::{Stage, Status};
 impl<N: Network, J: Journals> Floor<N, J> {
     // The coordinator's first entry.
     pub(super) fn begin_of(&self) -> Result<Response, FloorRefusal>
-        ensures { result ≡ begin_of (state N.links J.entries self.now) }
+        ensures { result ≡ begin_of (state self.now) }
     {
         if self.ledgers == 0 {
             return Err(FloorRefusal::UnknownLedger);
@@ -37,7 +37,7 @@ impl<N: Network, J: Journals> Floor<N, J> {
 
     // A ledger's act.
     pub(super) fn step_of(&self, ledger: u8) -> Result<Response, FloorRefusal>
-        ensures answer { result ≡ step_of (state N.links J.entries self.now) ledger }
+        ensures answer { result ≡ step_of (state self.now) ledger }
         ensures known { OnOk result (ledger < 8) }
     {
         if ledger >= self.ledgers {
@@ -54,7 +54,7 @@ impl<N: Network, J: Journals> Floor<N, J> {
 
     // Nothing is left of the row of a ledger that stops.
     pub(super) fn stop_of(&self, ledger: u8) -> Result<Response, FloorRefusal>
-        ensures answer { result ≡ stop_of (state N.links J.entries self.now) ledger }
+        ensures answer { result ≡ stop_of (state self.now) ledger }
         ensures known { OnOk result (ledger < 8) }
     {
         if ledger >= self.ledgers {
@@ -71,7 +71,7 @@ impl<N: Network, J: Journals> Floor<N, J> {
 
     // What a ledger does about another's silence, or why it does nothing.
     pub(super) fn expiry_of(&self, ledger: u8, silent: u8) -> Result<Response, FloorRefusal>
-        ensures answer { result ≡ expiry_of (state N.links J.entries self.now) ledger silent }
+        ensures answer { result ≡ expiry_of (state self.now) ledger silent }
         ensures known { OnOk result (ledger < 8) }
     {
         if ledger >= self.ledgers || silent >= self.ledgers || ledger == silent {
@@ -92,7 +92,7 @@ impl<N: Network, J: Journals> Floor<N, J> {
 
     // What a restart of this ledger finds, or why it may not restart.
     pub(super) fn restart_of(&self, ledger: u8) -> Result<Finding, FloorRefusal>
-        ensures answer { result ≡ restart_of (state N.links J.entries self.now) ledger }
+        ensures answer { result ≡ restart_of (state self.now) ledger }
         ensures known { OnOk result (ledger < 8) }
     {
         if ledger >= self.ledgers {

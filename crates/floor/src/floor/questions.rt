@@ -19,7 +19,7 @@ use rules::stage::Status;
 impl<N: Network, J: Journals> Floor<N, J> {
     // Whether a ledger's machine runs.
     pub fn status(&self, ledger: u8) -> Result<Status, FloorFault>
-        ensures { result ≡ status_answer (state N.links J.entries self.now) ledger }
+        ensures { result ≡ status_answer (state self.now) ledger }
     {
         if ledger >= self.ledgers {
             return Err(FloorFault::Refused(FloorRefusal::UnknownLedger, ledger, NO_LEDGER));
@@ -29,7 +29,7 @@ impl<N: Network, J: Journals> Floor<N, J> {
 
     // How a ledger stands.
     pub fn standing(&self, ledger: u8) -> Result<Standing, FloorFault>
-        ensures { result ≡ standing_answer (state N.links J.entries self.now) ledger }
+        ensures { result ≡ standing_answer (state self.now) ledger }
     {
         if ledger >= self.ledgers {
             return Err(FloorFault::Refused(FloorRefusal::UnknownLedger, ledger, NO_LEDGER));
@@ -46,7 +46,7 @@ impl<N: Network, J: Journals> Floor<N, J> {
 
     // How many ledgers take part; none where the floor is closed.
     pub fn ledgers(&self) -> usize
-        ensures value { result ≡ (state N.links J.entries self.now).ledgers }
+        ensures value { result ≡ (state self.now).ledgers }
         ensures few { result ≤ 8 }
     {
         self.ledgers as usize
@@ -54,7 +54,7 @@ impl<N: Network, J: Journals> Floor<N, J> {
 
     // The journals, for a reader of one of the floor's ledgers.
     pub fn journals_with(&self, ledger: u8) -> Result<&J, FloorFault>
-        ensures { MatchResult result (λ journals. (known (state N.links J.entries self.now) ledger ≡ true) × (J.entries journals.now ≡ (state N.links J.entries self.now).entries)) (λ fault. (known (state N.links J.entries self.now) ledger ≡ false) × (fault ≡ Refused UnknownLedger ledger 255)) }
+        ensures { MatchResult result (λ journals. (known (state self.now) ledger ≡ true) × (J.entries journals.now ≡ (state self.now).entries)) (λ fault. (known (state self.now) ledger ≡ false) × (fault ≡ Refused UnknownLedger ledger 255)) }
     {
         if ledger < self.ledgers {
             return Ok(&self.journals);
@@ -64,7 +64,7 @@ impl<N: Network, J: Journals> Floor<N, J> {
 
     // The code at a place of a ledger's journal.
     pub fn read(&self, ledger: u8, place: usize) -> Result<u8, FloorFault>
-        ensures { result ≡ read_of (state N.links J.entries self.now) ledger place }
+        ensures { result ≡ read_of (state self.now) ledger place }
     {
         let code = self.journals.read(ledger, place)?;
         Ok(code)
@@ -72,7 +72,7 @@ impl<N: Network, J: Journals> Floor<N, J> {
 
     // How many messages were sent since the opening.
     pub fn total(&self) -> u64
-        ensures { result ≡ (state N.links J.entries self.now).sent }
+        ensures { result ≡ (state self.now).sent }
     {
         self.sent
     }

@@ -31,14 +31,14 @@ pub(super) fn runs(status: Status) -> bool
 impl<N: Network, J: Journals> Floor<N, J> {
     pub(super) fn row_of(&self, ledger: u8) -> Row
         requires { ledger < 8 }
-        ensures { result ≡ row_of (state N.links J.entries self.now) ledger }
+        ensures { result ≡ row_of (state self.now) ledger }
     {
         self.rows[ledger as usize]
     }
 
     pub(super) fn member_of(&self, ledger: u8) -> Member
         requires { ledger < 8 }
-        ensures { result ≡ member_of (state N.links J.entries self.now) ledger }
+        ensures { result ≡ member_of (state self.now) ledger }
     {
         Member {
             ledgers: self.ledgers,
@@ -49,7 +49,7 @@ impl<N: Network, J: Journals> Floor<N, J> {
 
     // Refuses a call that does not name two different ledgers of the floor.
     pub(super) fn check_pair(&self, one: u8, other: u8) -> Result<(), FloorFault>
-        ensures { MatchResult result (λ _. (pair (state N.links J.entries self.now) one other ≡ true) × (one < 8) × (other < 8)) (λ fault. (pair (state N.links J.entries self.now) one other ≡ false) × (fault ≡ Refused UnknownLedger one other)) }
+        ensures { MatchResult result (λ _. (pair (state self.now) one other ≡ true) × (one < 8) × (other < 8)) (λ fault. (pair (state self.now) one other ≡ false) × (fault ≡ Refused UnknownLedger one other)) }
     {
         if one >= self.ledgers || other >= self.ledgers || one == other {
             return Err(FloorFault::Refused(FloorRefusal::UnknownLedger, one, other));

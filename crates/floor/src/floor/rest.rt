@@ -15,13 +15,13 @@ use protocol::fault::{FloorFault, FloorRefusal};
 impl<N: Network, J: Journals> Floor<N, J> {
     fn is_alive(&self, ledger: u8) -> bool
         requires { ledger < 8 }
-        ensures { result ≡ alive (state N.links J.entries self.now) ledger }
+        ensures { result ≡ alive (state self.now) ledger }
     {
         runs(self.row_of(ledger).status)
     }
 
     fn is_clear_from(&self, sender: u8) -> bool
-        ensures { result ≡ clear_from (state N.links J.entries self.now) sender }
+        ensures { result ≡ clear_from (state self.now) sender }
     {
         let mut all = true;
         let mut receiver = 0;
@@ -33,7 +33,7 @@ impl<N: Network, J: Journals> Floor<N, J> {
     }
 
     fn is_clear(&self) -> bool
-        ensures { result ≡ all_clear (state N.links J.entries self.now) }
+        ensures { result ≡ all_clear (state self.now) }
     {
         let mut all = true;
         let mut sender = 0;
@@ -47,7 +47,7 @@ impl<N: Network, J: Journals> Floor<N, J> {
     // Nothing is on its way from a stopped ledger to a running one.
     fn is_settled_between(&self, sender: u8, receiver: u8) -> bool
         requires { (sender < 8) × (receiver < 8) }
-        ensures { result ≡ settled (state N.links J.entries self.now) sender receiver }
+        ensures { result ≡ settled (state self.now) sender receiver }
     {
         self.is_alive(sender)
             | (!self.is_alive(receiver) | self.network.look(sender, receiver).is_err())
@@ -55,7 +55,7 @@ impl<N: Network, J: Journals> Floor<N, J> {
 
     fn is_settled_from(&self, sender: u8) -> bool
         requires { sender < 8 }
-        ensures { result ≡ settled_from (state N.links J.entries self.now) sender }
+        ensures { result ≡ settled_from (state self.now) sender }
     {
         let mut all = true;
         let mut receiver = 0;
@@ -67,7 +67,7 @@ impl<N: Network, J: Journals> Floor<N, J> {
     }
 
     fn is_settled(&self) -> bool
-        ensures { result ≡ all_below (settled_from (state N.links J.entries self.now)) self.now.ledgers }
+        ensures { result ≡ all_below (settled_from (state self.now)) self.now.ledgers }
     {
         let mut all = true;
         let mut sender = 0;
@@ -80,14 +80,14 @@ impl<N: Network, J: Journals> Floor<N, J> {
 
     fn on_time(&self, ledger: u8) -> bool
         requires { ledger < 8 }
-        ensures { result ≡ on_time (state N.links J.entries self.now) ledger }
+        ensures { result ≡ on_time (state self.now) ledger }
     {
         !self.is_alive(ledger) & self.is_settled()
     }
 
     // Whether an expiry of this ledger would be on time.
     pub fn is_on_time(&self, ledger: u8) -> Result<bool, FloorFault>
-        ensures { result ≡ on_time_answer (state N.links J.entries self.now) ledger }
+        ensures { result ≡ on_time_answer (state self.now) ledger }
     {
         if ledger >= self.ledgers {
             return Err(FloorFault::Refused(FloorRefusal::UnknownLedger, ledger, NO_LEDGER));
@@ -96,7 +96,7 @@ impl<N: Network, J: Journals> Floor<N, J> {
     }
 
     fn is_idle(&self) -> bool
-        ensures { result ≡ all_below (idle (state N.links J.entries self.now)) self.now.ledgers }
+        ensures { result ≡ all_below (idle (state self.now)) self.now.ledgers }
     {
         let mut all = true;
         let mut ledger = 0;
@@ -108,7 +108,7 @@ impl<N: Network, J: Journals> Floor<N, J> {
     }
 
     fn is_patient(&self, silent: u8) -> bool
-        ensures { result ≡ all_below (patient (state N.links J.entries self.now) silent) self.now.ledgers }
+        ensures { result ≡ all_below (patient (state self.now) silent) self.now.ledgers }
     {
         let mut all = true;
         let mut ledger = 0;
@@ -122,13 +122,13 @@ impl<N: Network, J: Journals> Floor<N, J> {
     // Nobody would expire the ledger on time.
     fn is_unmissed(&self, ledger: u8) -> bool
         requires { ledger < 8 }
-        ensures { result ≡ unmissed (state N.links J.entries self.now) ledger }
+        ensures { result ≡ unmissed (state self.now) ledger }
     {
         !self.on_time(ledger) | self.is_patient(ledger)
     }
 
     fn are_unmissed(&self) -> bool
-        ensures { result ≡ all_below (unmissed (state N.links J.entries self.now)) self.now.ledgers }
+        ensures { result ≡ all_below (unmissed (state self.now)) self.now.ledgers }
     {
         let mut all = true;
         let mut ledger = 0;
@@ -140,15 +140,15 @@ impl<N: Network, J: Journals> Floor<N, J> {
     }
 
     fn rests(&self) -> bool
-        ensures { result ≡ at_rest (state N.links J.entries self.now) }
+        ensures { result ≡ at_rest (state self.now) }
     {
         self.is_clear() & (self.is_idle() & self.are_unmissed())
     }
 
     // No message is on its way, no running ledger has an act left, and no on-time expiry would be taken.
     pub fn is_at_rest(&self) -> bool
-        ensures answer { result ≡ at_rest (state N.links J.entries self.now) }
-        ensures promises { Promised N.DEPTH (state N.links J.entries self.now) }
+        ensures answer { result ≡ at_rest (state self.now) }
+        ensures promises { Promised N.DEPTH (state self.now) }
     {
         self.rests()
     }

@@ -33,7 +33,7 @@ struct Found {
 impl<N: Network, J: Journals> Floor<N, J> {
     fn note_of(&self, ledger: u8) -> Option<Note>
         requires { ledger < 8 }
-        ensures { option_to_list result ≡ note_of (state N.links J.entries self.now) ledger }
+        ensures { option_to_list result ≡ note_of (state self.now) ledger }
     {
         match self.row_of(ledger).status {
             Status::Running if self.has(ledger, Entry::Dispute.code()) => Some(Note {
@@ -50,7 +50,7 @@ impl<N: Network, J: Journals> Floor<N, J> {
 
     // Each ledger has one note at the most.
     fn find_notes(&self) -> Found
-        ensures notes { take result.count result.notes ≡ notes_of (state N.links J.entries self.now) }
+        ensures notes { take result.count result.notes ≡ notes_of (state self.now) }
         ensures few { result.count ≤ 8 }
     {
         let mut notes = [Note {
@@ -69,8 +69,8 @@ impl<N: Network, J: Journals> Floor<N, J> {
 
     // Fills the front of the list, by ledger number, with what a person must settle, and answers how much that is. Eight places suffice.
     pub fn worklist(&self, list: &mut [Note]) -> Result<usize, FloorFault>
-        ensures answer { result ≡ worklist_answer (state N.links J.entries self.now) (length list.old) }
-        ensures after { list.new ≡ worklist_after (state N.links J.entries self.now) list.old }
+        ensures answer { result ≡ worklist_answer (state self.now) (length list.old) }
+        ensures after { list.new ≡ worklist_after (state self.now) list.old }
         ensures eight { 8 ≤ length list.old → is_ok result ≡ true }
     {
         let found = self.find_notes();

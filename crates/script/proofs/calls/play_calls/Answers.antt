@@ -9,7 +9,7 @@ use Rattle.script.proofs.calls.play_calls.Goals as goal
 pub loop-line-preserved : goal.loop-line-preserved
 loop-line-preserved g c =
     let depth = g.N.Network.DEPTH in
-    let s = state g.N.Network.links g.J.Journals.entries c.loop-line.floor in
+    let s = state c.loop-line.floor in
     let script = c.args.script.now in
     let k = c.loop-line.number in
     let at = c.in-Some.ensures.1 in
@@ -25,7 +25,7 @@ loop-line-preserved g c =
 pub returns-in_ok-push_fault-2 : goal.returns-in_ok-push_fault-2
 returns-in_ok-push_fault-2 g c =
     let depth = g.N.Network.DEPTH in
-    let s = state g.N.Network.links g.J.Journals.entries c.loop-line.floor in
+    let s = state c.loop-line.floor in
     let script = c.args.script.now in
     let k = c.loop-line.number in
     let none = c.in_default.ensures in
@@ -38,7 +38,7 @@ returns-in_ok-push_fault-2 g c =
 pub returns-else-start-script : goal.returns-else-start-script
 returns-else-start-script g c =
     let depth = g.N.Network.DEPTH in
-    let s = state g.N.Network.links g.J.Journals.entries c.loop-line.floor in
+    let s = state c.loop-line.floor in
     let script = c.args.script.now in
     let k = c.loop-line.number in
     let none = c.in_default.ensures in

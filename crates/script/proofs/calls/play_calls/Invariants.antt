@@ -9,8 +9,8 @@ use Rattle.script.proofs.calls.play_calls.Given as goal
 abbrev pub invariant-loop-line : goal.invariant-loop-line
 invariant-loop-line g l =
     let depth = g.N.Network.DEPTH in
-    let now = state g.N.Network.links g.J.Journals.entries l.floor in
-    let then = state g.N.Network.links g.J.Journals.entries l.initial.floor in
+    let now = state l.floor in
+    let then = state l.initial.floor in
     let left = lines_of (drop l.start l.script) in
     let all = lines_of (drop l.first l.script) in
     (string_bytes l.text ++ calls_text depth now l.number left.whole left.left ≡ string_bytes l.initial.text ++ calls_text depth then 2 all.whole all.left)

@@ -13,6 +13,6 @@ returns g c =
       opened = c.rehearsed.ensures.opened;
       promises =
           IfOk-weaker c.rehearsed.result _ _
-          (λ it e. promised g.N.Network.DEPTH links entries g.met.N.Network.deep (g.met.N.Network.bounded c.args.network) (g.met.J.Journals.bounded c.args.journals) c.args.script.now (state g.N.Network.links g.J.Journals.entries it.floor) e)
+          (λ it e. promised g.N.Network.DEPTH links entries g.met.N.Network.deep (g.met.N.Network.bounded c.args.network) (g.met.J.Journals.bounded c.args.journals) c.args.script.now (state it.floor) e)
           c.rehearsed.ensures.floor;
     }

@@ -5,15 +5,15 @@ use Rattle.script.proofs.TextFacts.{texts_end, texts_more, texts_none}
 use Rattle.script.proofs.texts.push_end.Goals as goal
 
 pub loop-ledger-init : goal.loop-ledger-init
-loop-ledger-init g c = texts_none (state g.N.Network.links g.J.Journals.entries c.args.floor.now) (string_bytes c.args.text.now)
+loop-ledger-init g c = texts_none (state c.args.floor.now) (string_bytes c.args.text.now)
 
 pub loop-ledger-preserved : goal.loop-ledger-preserved
 loop-ledger-preserved g c =
-    texts_more (state g.N.Network.links g.J.Journals.entries c.args.floor.now) c.loop-ledger.ledger (string_bytes c.args.text.now) (string_bytes c.loop-ledger.text) _ c.loop-ledger.invariant c.in_ok-push_ledger.ensures
+    texts_more (state c.args.floor.now) c.loop-ledger.ledger (string_bytes c.args.text.now) (string_bytes c.loop-ledger.text) _ c.loop-ledger.invariant c.in_ok-push_ledger.ensures
 
 pub returns : goal.returns
 returns g c =
-    let s = state g.N.Network.links g.J.Journals.entries c.args.floor.now in
+    let s = state c.args.floor.now in
     let before = string_bytes c.args.text.now in
     let end : c.loop-ledger.ledger ≡ s.ledgers = omega (arith, c.ledgers-ledger-end.ensures.value) in
     texts_end before (string_bytes c.loop-ledger.text) _ (ledger_texts s s.ledgers) (total_text s.sent) _

@@ -5,4 +5,4 @@ use Rattle.script.proofs.texts.push_end.Given as goal
 
 abbrev pub invariant-loop-ledger : goal.invariant-loop-ledger
 invariant-loop-ledger g l =
-    string_bytes l.text ≡ string_bytes l.initial.text ++ ledger_texts (state g.N.Network.links g.J.Journals.entries l.floor) l.ledger
+    string_bytes l.text ≡ string_bytes l.initial.text ++ ledger_texts (state l.floor) l.ledger

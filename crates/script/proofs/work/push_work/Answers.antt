@@ -8,7 +8,7 @@ use Rattle.script.proofs.work.push_work.Goals as goal
 
 pub returns : goal.returns
 returns g c =
-    let s = state g.N.Network.links g.J.Journals.entries c.args.floor.now in
+    let s = state c.args.floor.now in
     let found = c.in-Ok.ensures in
     let blank : List Note = replicate 8 (record { ledger = 0; reason = Uncertain }) in
     let laid = listed s c.in-Ok.count blank c.worklist.new.list found.answer found.after in

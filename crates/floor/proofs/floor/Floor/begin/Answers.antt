@@ -5,7 +5,7 @@ use Rattle.floor.proofs.floor.Floor.begin.Goals as goal
 pub returns : goal.returns
 returns g c =
     let depth = g.N.Network.DEPTH in
-    let before = state g.N.Network.links g.J.Journals.entries c.args.self.now in
+    let before = state c.args.self.now in
     let answers = begin_same depth before in
     let leaves = begin_leaves depth before in
     record { answer = cc; after = cc }

@@ -6,11 +6,11 @@ use Rattle.floor.proofs.floor.Floor.find_notes.Goals.{in-Some, in_default}
 
 pub loop-ledger-init : goal.loop-ledger-init
 loop-ledger-init g c =
-    (notes_none (state g.N.Network.links g.J.Journals.entries c.args.self.now), omega arith, search rules)
+    (notes_none (state c.args.self.now), omega arith, search rules)
 
 pub loop-ledger-preserved : goal.loop-ledger-preserved
 loop-ledger-preserved g c =
-    let s = state g.N.Network.links g.J.Journals.entries c.args.self.now in
+    let s = state c.args.self.now in
     let l = c.loop-ledger in
     let room : l.count < length l.notes = omega arith in
     elim c.match-note_of.branch [

@@ -6,6 +6,6 @@ use Rattle.floor.proofs.floor.Floor.find_notes.Given as goal
 -- the notes of the ledgers so far, one of each at the most
 abbrev pub invariant-loop-ledger : goal.invariant-loop-ledger
 invariant-loop-ledger g l =
-    (take l.count l.notes ≡ notes_below (state g.N.Network.links g.J.Journals.entries l.self) l.ledger)
+    (take l.count l.notes ≡ notes_below (state l.self) l.ledger)
     × (l.count ≤ l.ledger)
     × (length l.notes ≡ 8)

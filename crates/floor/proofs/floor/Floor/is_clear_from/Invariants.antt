@@ -6,7 +6,7 @@ use Rattle.floor.proofs.floor.Floor.is_clear_from.Given as goal
 
 abbrev pub invariant-loop-receiver : goal.invariant-loop-receiver
 invariant-loop-receiver g l =
-    (l.all ≡ all_below (clear (state g.N.Network.links g.J.Journals.entries l.self) l.sender) l.receiver) × (l.receiver ≤ l.self.ledgers)
+    (l.all ≡ all_below (clear (state l.self) l.sender) l.receiver) × (l.receiver ≤ l.self.ledgers)
 
 abbrev pub decreases-loop-receiver : goal.decreases-loop-receiver
 decreases-loop-receiver g l = l.self.ledgers - l.receiver

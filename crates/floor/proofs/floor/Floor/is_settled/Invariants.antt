@@ -6,7 +6,7 @@ use Rattle.floor.proofs.floor.Floor.is_settled.Given as goal
 
 abbrev pub invariant-loop-sender : goal.invariant-loop-sender
 invariant-loop-sender g l =
-    (l.all ≡ all_below (settled_from (state g.N.Network.links g.J.Journals.entries l.self)) l.sender) × (l.sender ≤ l.self.ledgers)
+    (l.all ≡ all_below (settled_from (state l.self)) l.sender) × (l.sender ≤ l.self.ledgers)
 
 abbrev pub decreases-loop-sender : goal.decreases-loop-sender
 decreases-loop-sender g l = l.self.ledgers - l.sender

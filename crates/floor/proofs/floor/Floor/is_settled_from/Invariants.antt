@@ -6,7 +6,7 @@ use Rattle.floor.proofs.floor.Floor.is_settled_from.Given as goal
 
 abbrev pub invariant-loop-receiver : goal.invariant-loop-receiver
 invariant-loop-receiver g l =
-    (l.all ≡ all_below (settled (state g.N.Network.links g.J.Journals.entries l.self) l.sender) l.receiver) × (l.receiver ≤ l.self.ledgers)
+    (l.all ≡ all_below (settled (state l.self) l.sender) l.receiver) × (l.receiver ≤ l.self.ledgers)
 
 abbrev pub decreases-loop-receiver : goal.decreases-loop-receiver
 decreases-loop-receiver g l = l.self.ledgers - l.receiver

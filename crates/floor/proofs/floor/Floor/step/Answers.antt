@@ -5,7 +5,7 @@ use Rattle.floor.proofs.floor.Floor.step.Goals as goal
 pub returns : goal.returns
 returns g c =
     let depth = g.N.Network.DEPTH in
-    let before = state g.N.Network.links g.J.Journals.entries c.args.self.now in
+    let before = state c.args.self.now in
     let answers = step_same depth before c.args.ledger in
     let leaves = step_leaves depth before c.args.ledger in
     record { answer = cc; after = cc }
