@@ -2,6 +2,7 @@
 #![tactic(auto)]
 
 use lanes::Lanes;
+use ledgers::fault::Fault;
 use network::fault::NetworkFault;
 use network::link::Network;
 use network::message::{Decision, Message, Vote};

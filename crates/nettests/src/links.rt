@@ -1,5 +1,6 @@
 // The same calls on the pool and on the lanes.
 use lanes::Lanes;
+use ledgers::fault::Fault;
 use network::fault::NetworkFault;
 use network::forward::forward_all;
 use network::link::{Link, Network};

@@ -1,15 +1,18 @@
 // Why a call on a network was refused.
 ghost use Rattle.std.specs.Prelude.{◌≡◌};
-ghost use Rattle.network.specs.Refusals.{number_of, refused};
+ghost use Rattle.network.specs.Refusals.{counted, number_of, refused};
 
-#[derive(Clone, Copy, Debug)]
+use ledgers::fault::Fault;
+
+// Each with its number.
+#[derive(Clone, Copy, Debug, PartialEq, Eq)]
 pub enum NetworkRefusal {
-    UnknownLedger,
-    NothingThere,
-    LinkFull,
+    UnknownLedger = 2,
+    NothingThere = 7,
+    LinkFull = 8,
 }
 
-#[derive(Clone, Copy, Debug)]
+#[derive(Clone, Copy, Debug, PartialEq, Eq)]
 pub struct NetworkFault {
     pub refusal: NetworkRefusal,
     // The link's two ends, as called.
@@ -27,21 +30,25 @@ impl NetworkFault {
             receiver,
         }
     }
+}
 
-    pub fn number(&self) -> u8
+impl Fault for NetworkFault {
+    ghost numbered = { λ fault. number_of fault.refusal };
+
+    ghost letter = { λ _. 78 };
+
+    fn number(&self) -> u8
         ensures { result ≡ number_of self.now.refusal }
     {
-        match self.refusal {
-            NetworkRefusal::UnknownLedger => 2,
-            NetworkRefusal::NothingThere => 7,
-            NetworkRefusal::LinkFull => 8,
-        }
+        self.refusal as u8
     }
 
     // The letter of the layer where the fault arose.
-    pub fn layer(&self) -> char
+    fn layer(&self) -> char
         ensures { result ≡ 78 }
     {
         'N'
     }
+
+    ghost counted = { counted };
 }

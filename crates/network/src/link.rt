@@ -7,25 +7,57 @@ ghost use Rattle.network.specs.declared.message.Message.{Message};
 
 use crate::fault::{NetworkFault, NetworkRefusal};
 use crate::message::Message;
-
-// The ledgers are numbered from 0 to 7.
-pub const LEDGERS: usize = 8;
+pub use ledgers::ledger::LEDGERS;
+use ledgers::ledger::Ledger;
 
 // From one ledger to another.
-#[derive(Clone, Copy)]
+#[derive(Clone, Copy, Debug, PartialEq, Eq)]
 pub struct Link {
     pub sender: u8,
     pub receiver: u8,
 }
 
-// Refuses a pair that is no link: two different ledgers make one.
-pub fn check_link(sender: u8, receiver: u8) -> Result<(), NetworkFault>
-    ensures { MatchResult result (λ _. is_link sender receiver ≡ true) (λ fault. (is_link sender receiver ≡ false) × (fault ≡ refused sender receiver UnknownLedger)) }
-{
-    if sender as usize >= LEDGERS || receiver as usize >= LEDGERS || sender == receiver {
-        return Err(NetworkFault::on(sender, receiver, NetworkRefusal::UnknownLedger));
+// A link that there is: from one ledger to a different one.
+#[derive(Clone, Copy)]
+pub struct Route {
+    pub sender: Ledger,
+    pub receiver: Ledger,
+    pub ghost apart: { is_link sender.number receiver.number ≡ true },
+}
+
+impl Route {
+    pub fn link(self) -> Link
+        ensures { result ≡ record { sender = self.sender.number; receiver = self.receiver.number } }
+    {
+        Link {
+            sender: self.sender.number(),
+            receiver: self.receiver.number(),
+        }
     }
-    Ok(())
+
+    // A call on this link, refused.
+    pub fn refused(self, refusal: NetworkRefusal) -> NetworkFault
+        ensures { result ≡ refused self.sender.number self.receiver.number refusal }
+    {
+        NetworkFault::on(self.sender.number(), self.receiver.number(), refusal)
+    }
+}
+
+// The link from one ledger to another, or the refusal of a pair that is no link: two different ledgers make one.
+#[tactic(auto, unfolding(crate::specs::Links::is_link))]
+pub fn check_link(sender: u8, receiver: u8) -> Result<Route, NetworkFault>
+    ensures { MatchResult result (λ route. (is_link sender receiver ≡ true) × (route.sender.number ≡ sender) × (route.receiver.number ≡ receiver)) (λ fault. (is_link sender receiver ≡ false) × (fault ≡ refused sender receiver UnknownLedger)) }
+{
+    let unknown = NetworkFault::on(sender, receiver, NetworkRefusal::UnknownLedger);
+    let from = Ledger::new(sender).ok_or(unknown)?;
+    let to = Ledger::new(receiver).ok_or(unknown)?;
+    if sender == receiver {
+        return Err(unknown);
+    }
+    Ok(Route {
+        sender: from,
+        receiver: to,
+    })
 }
 
 pub trait Network {

@@ -2,42 +2,36 @@
 ghost use Rattle.std.specs.Prelude.{◌≡◌};
 ghost use Rattle.network.specs.Messages.{decision_number, kind, vote_number};
 
-#[derive(Clone, Copy, Debug)]
+#[derive(Clone, Copy, Debug, PartialEq, Eq)]
 pub enum Vote {
-    Yes,
-    No,
+    Yes = 1,
+    No = 2,
 }
 
 impl Vote {
     pub fn number(self) -> u8
         ensures { result ≡ vote_number self }
     {
-        match self {
-            Vote::Yes => 1,
-            Vote::No => 2,
-        }
+        self as u8
     }
 }
 
 // What becomes of a batch in every ledger.
-#[derive(Clone, Copy, Debug)]
+#[derive(Clone, Copy, Debug, PartialEq, Eq)]
 pub enum Decision {
-    Post,
-    Drop,
+    Post = 1,
+    Drop = 2,
 }
 
 impl Decision {
     pub fn number(self) -> u8
         ensures { result ≡ decision_number self }
     {
-        match self {
-            Decision::Post => 1,
-            Decision::Drop => 2,
-        }
+        self as u8
     }
 }
 
-#[derive(Clone, Copy, Debug)]
+#[derive(Clone, Copy, Debug, PartialEq, Eq)]
 pub enum Message {
     // The coordinator asks for a vote.
     Prepare,
@@ -60,6 +54,7 @@ impl Message {
     pub fn kind(&self) -> u8
         ensures { result ≡ kind self.now }
     {
+        // By cases: only variants that carry nothing may have numbers of their own.
         match self {
             Message::Prepare => 1,
             Message::Vote(_) => 2,

@@ -4,6 +4,7 @@ ghost use Rattle.protocol.specs.Refusals.{fault_layer, fault_number, number_of};
 ghost use Rattle.protocol.specs.declared.fault.FloorFault.TheVariants.{Link, Journal};
 
 use journals::fault::JournalsFault;
+use ledgers::fault::Fault;
 use network::fault::NetworkFault;
 
 #[derive(Clone, Copy, Debug)]
