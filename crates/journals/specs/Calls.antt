@@ -1,5 +1,5 @@
 -- What each call on a set of journals answers, and how it moves the lists.
-use Rattle.std.specs.Prelude.{ℕ, Bool, cond, List, [], ◌∷◌, ◌++◌, length, is_ok, Ok, Err, Result, ◌==◌, nat_lt}
+use Rattle.std.specs.Prelude.{ℕ, Bool, cond, List, [], ◌∷◌, ◌++◌, length, drop, is_ok, Ok, Err, Result, ◌==◌, nat_lt}
 use Rattle.std.specs.Option.{ok_or}
 use Rattle.std.specs.List.{slice_get}
 use Rattle.journals.specs.Codes.{is_code, is_ledger}
@@ -45,3 +45,7 @@ read_answer entries p place =
 -- 2
 abbrev pub count_answer : Entries → ℕ → Result ℕ JournalsFault
 count_answer entries p = check (is_ledger p) (refused_for p UnknownLedger) (Ok (length (entries p)))
+
+-- p's codes from a place on
+abbrev pub left_from : Entries → ℕ → ℕ → List ℕ
+left_from entries p place = drop place (entries p)

@@ -1,6 +1,7 @@
 -- The ledgers, the entries and the entries' codes.
-use Rattle.std.specs.Prelude.{ℕ, Bool, true, false, ◌&&◌, nat_le, nat_lt}
+use Rattle.std.specs.Prelude.{◌≡◌, ℕ, Bool, true, false, ◌&&◌, Result, MatchResult, nat_le, nat_lt}
 use Rattle.journals.specs.declared.entry.Entry.{Entry}
+use Rattle.journals.specs.declared.entry.NoEntry.{NoEntry}
 use Rattle.journals.specs.declared.entry.Entry.TheVariants.{Begin, ReadyYes, ReadyNo, CommitReached, AbortReached, CommitReceived, AbortReceived, TransactionCommit, TransactionAbort, Dispute}
 
 -- the ledgers are numbered from 0 to 7
@@ -22,6 +23,10 @@ code_of Dispute = 10
 -- a code is a number from 1 to 10
 abbrev pub is_code : ℕ → Bool
 is_code c = nat_le 1 c && nat_le c 10
+
+-- the entry that has this code, or an error with a code that no entry has
+abbrev pub Decodes : ℕ → Result Entry NoEntry → Type 0
+Decodes code r = MatchResult r (λ e. (is_code code ≡ true) × (code_of e ≡ code)) (λ e. (is_code code ≡ false) × (e.0 ≡ code))
 
 -- the two entries that are a ledger's decision
 abbrev pub decides : Entry → Bool

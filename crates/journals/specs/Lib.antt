@@ -3,4 +3,5 @@ pub mod Codes
 pub mod Refusals
 pub mod Rows
 pub mod CodeFacts
+pub mod RefusalFacts
 pub mod RowFacts

@@ -1,5 +1,5 @@
 -- The refusals of journals, each with its number, and the faults that hold them.
-use Rattle.std.specs.Prelude.{ℕ, Some, None, Option}
+use Rattle.std.specs.Prelude.{ℕ, List, [], ◌∷◌, ◌++◌, Some, None, codes, decimal, Option}
 use Rattle.journals.specs.declared.fault.JournalsFault.{JournalsFault}
 use Rattle.journals.specs.declared.fault.JournalsRefusal.{JournalsRefusal}
 use Rattle.journals.specs.declared.fault.JournalsRefusal.TheVariants.{UnknownLedger, NothingThere, JournalFull, UnknownCode, ShortList, TornTape}
@@ -28,3 +28,12 @@ refused_for ledger why = record { refusal = why; first = ledger; second = 255 }
 -- the refusal of a call that names no ledger
 abbrev pub refused : JournalsRefusal → JournalsFault
 refused why = record { refusal = why; first = 255; second = 255 }
+
+-- a place after what was told before it
+abbrev pub place_part : Option ℕ → List ℕ
+place_part None = []
+place_part (Some place) = 32 ∷ decimal place
+
+-- the refusal's number, the layer J, and the place
+abbrev pub fault_text : JournalsFault → List ℕ
+fault_text fault = decimal (number_of fault.refusal) ++ (codes " J" ++ place_part (place_of fault.refusal))

@@ -1,4 +1,5 @@
 -- What the rows mean, read at one ledger and after one row is stored.
+use mathlib.Core.Path.{fun_ext}
 use Rattle.std.specs.Prelude.{◌≡◌, ℕ, zero, suc, ◌<◌, ◌≤◌, true, List, [], ◌∷◌, map, length, slice_index_or, slice_set}
 use Rattle.std.specs.List.{AllByRecursion}
 use Rattle.std.proofs.Common.{◌∙◌, arith}
@@ -20,10 +21,14 @@ each_row P none [] every p = none
 each_row P none (row ∷ rows) every zero = every row
 each_row P none (row ∷ rows) every (suc p) = each_row P none rows every p
 
-pub entries_set : (j : Rows) (p : ℕ) (row : Row) → p < 8 → (q : ℕ) → slice_index_or (map codes (slice_set j.rows p row)) q [] ≡ with_list (entries_of j) p (codes row) q
-entries_set j p row below q =
+set_at : (j : Rows) (p : ℕ) (row : Row) → p < 8 → (q : ℕ) → slice_index_or (map codes (slice_set j.rows p row)) q [] ≡ with_list (entries_of j) p (codes row) q
+set_at j p row below q =
     let long : p < length (map codes j.rows) = simp length-map (omega arith) in
     rw map-set (grind (arith, nat_tests, get_or-set_same (map codes j.rows) p (codes row) [] long, get_or-set_other (map codes j.rows) p q (codes row) []))
+
+-- i is the place of p's row
+pub entries_set : (j : Rows) (i p : ℕ) (row : Row) → i ≡ p → p < 8 → (λ q. slice_index_or (map codes (slice_set j.rows i row)) q []) ≡ with_list (entries_of j) p (codes row)
+entries_set j i p row at below = fun_ext (λ q. rw at (set_at j p row below q))
 
 pub entries_past : (j : Rows) (p : ℕ) → 8 ≤ p → entries_of j p ≡ []
 entries_past j p past = get_or_past _ p [] (simp length-map (omega arith))

@@ -1,8 +1,11 @@
 // The ten entries that a ledger can write, and their codes.
-ghost use Rattle.std.specs.Prelude.{◌≡◌, true, false, MatchOption};
-ghost use Rattle.journals.specs.Codes.{code_of, is_code, decides};
+ghost use Rattle.std.specs.Prelude.{◌≡◌, ◌++◌, Some, codes, decimal};
+ghost use Rattle.journals.specs.Codes.{Decodes, code_of, decides};
 
-#[derive(Clone, Copy)]
+use std::error::Error;
+use std::fmt;
+
+#[derive(Clone, Copy, Debug, PartialEq, Eq)]
 pub enum Entry {
     Begin = 1,
     ReadyYes = 2,
@@ -16,6 +19,10 @@ pub enum Entry {
     Dispute = 10,
 }
 
+// A code that no entry has.
+#[derive(Clone, Copy, Debug, PartialEq, Eq)]
+pub struct NoEntry(pub u8);
+
 impl Entry {
     pub fn code(self) -> u8
         ensures { result ≡ code_of self }
@@ -23,32 +30,43 @@ impl Entry {
         self as u8
     }
 
-    // The entry that has this code.
-    pub fn from_code(code: u8) -> Option<Entry>
-        ensures { MatchOption result (is_code code ≡ false) (λ e. (is_code code ≡ true) × (code_of e ≡ code)) }
-    {
-        match code {
-            1 => Some(Entry::Begin),
-            2 => Some(Entry::ReadyYes),
-            3 => Some(Entry::ReadyNo),
-            4 => Some(Entry::CommitReached),
-            5 => Some(Entry::AbortReached),
-            6 => Some(Entry::CommitReceived),
-            7 => Some(Entry::AbortReceived),
-            8 => Some(Entry::TransactionCommit),
-            9 => Some(Entry::TransactionAbort),
-            10 => Some(Entry::Dispute),
-            _ => None,
-        }
-    }
-
     // Whether the entry is the ledger's decision.
     pub fn is_decision(self) -> bool
         ensures { result ≡ decides self }
     {
-        match self {
-            Entry::TransactionCommit | Entry::TransactionAbort => true,
-            _ => false,
+        matches!(self, Entry::TransactionCommit | Entry::TransactionAbort)
+    }
+}
+
+// The entry that has this code.
+impl TryFrom<u8> for Entry {
+    type Error = NoEntry;
+
+    ghost try_from_gives = { Decodes };
+
+    fn try_from(code: u8) -> Result<Entry, NoEntry> {
+        match code {
+            1 => Ok(Entry::Begin),
+            2 => Ok(Entry::ReadyYes),
+            3 => Ok(Entry::ReadyNo),
+            4 => Ok(Entry::CommitReached),
+            5 => Ok(Entry::AbortReached),
+            6 => Ok(Entry::CommitReceived),
+            7 => Ok(Entry::AbortReceived),
+            8 => Ok(Entry::TransactionCommit),
+            9 => Ok(Entry::TransactionAbort),
+            10 => Ok(Entry::Dispute),
+            _ => Err(NoEntry(code)),
         }
     }
 }
+
+impl fmt::Display for NoEntry {
+    ghost output = { λ e. Some (codes "no entry has the code " ++ decimal e.0) };
+
+    fn fmt<W: fmt::Write>(&self, f: &mut fmt::Formatter<W>) -> fmt::Result {
+        write!(f, "no entry has the code {}", self.0)
+    }
+}
+
+impl Error for NoEntry {}

@@ -1,12 +1,16 @@
 // Why a call on journals was refused.
-ghost use Rattle.std.specs.Prelude.{◌≡◌};
+ghost use Rattle.std.specs.Prelude.{◌≡◌, Some};
 ghost use Rattle.journals.specs.declared.fault.JournalsRefusal.TheVariants.{TornTape};
-ghost use Rattle.journals.specs.Refusals.{number_of, place_of, refused, refused_for};
+ghost use Rattle.journals.specs.Refusals.{fault_text, number_of, place_of, refused, refused_for};
+ghost use Rattle.journals.specs.RefusalFacts.{numbers_counted};
+
+use ledgers::fault::Fault;
+use std::fmt;
 
 // Stands for a ledger where a fault has none.
 pub const NO_LEDGER: u8 = 255;
 
-#[derive(Clone, Copy, Debug)]
+#[derive(Clone, Copy, Debug, PartialEq, Eq)]
 pub enum JournalsRefusal {
     UnknownLedger,
     NothingThere,
@@ -17,7 +21,7 @@ pub enum JournalsRefusal {
     TornTape { place: usize },
 }
 
-#[derive(Clone, Copy, Debug)]
+#[derive(Clone, Copy, Debug, PartialEq, Eq)]
 pub struct JournalsFault {
     pub refusal: JournalsRefusal,
     // The ledgers as called.
@@ -51,7 +55,25 @@ impl JournalsFault {
         JournalsFault::of_none(JournalsRefusal::TornTape { place })
     }
 
-    pub fn number(&self) -> u8
+    // Where a torn tape is torn.
+    pub fn place(&self) -> Option<usize>
+        ensures { result ≡ place_of self.now.refusal }
+    {
+        match self.refusal {
+            JournalsRefusal::TornTape { place } => Some(place),
+            _ => None,
+        }
+    }
+}
+
+impl Fault for JournalsFault {
+    ghost numbered = { λ fault. number_of fault.refusal };
+
+    ghost letter = { λ _. 74 };
+
+    ghost counted = { λ fault. numbers_counted fault.refusal };
+
+    fn number(&self) -> u8
         ensures { result ≡ number_of self.now.refusal }
     {
         match self.refusal {
@@ -64,20 +86,22 @@ impl JournalsFault {
         }
     }
 
-    // The letter of the layer where the fault arose.
-    pub fn layer(&self) -> char
+    fn layer(&self) -> char
         ensures { result ≡ 74 }
     {
         'J'
     }
+}
 
-    // Where a torn tape is torn.
-    pub fn place(&self) -> Option<usize>
-        ensures { result ≡ place_of self.now.refusal }
-    {
-        match self.refusal {
-            JournalsRefusal::TornTape { place } => Some(place),
-            _ => None,
+// The refusal's number, the layer, and the place of a torn tape.
+impl fmt::Display for JournalsFault {
+    ghost output = { λ fault. Some (fault_text fault) };
+
+    fn fmt<W: fmt::Write>(&self, f: &mut fmt::Formatter<W>) -> fmt::Result {
+        write!(f, "{} {}", self.number(), self.layer())?;
+        match self.place() {
+            Some(place) => write!(f, " {place}"),
+            None => Ok(()),
         }
     }
 }

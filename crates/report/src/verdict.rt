@@ -6,6 +6,7 @@ ghost use Rattle.report.specs.Verdict.{fault_line, ledger_line, ledger_lines, to
 use crate::letters::push_letters;
 use journals::fault::JournalsFault;
 use journals::set::Journals;
+use ledgers::fault::Fault;
 use std::alloc::{AllocError, Global};
 use tape::Tape;
 

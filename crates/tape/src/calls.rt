@@ -12,6 +12,7 @@ use crate::{RECORDS, Tape};
 use journals::fault::{JournalsFault, JournalsRefusal};
 use journals::limits::{ENTRIES, LEDGERS, check_ledger, known_entry};
 use journals::set::Journals;
+use ledgers::ledger::Ledger;
 
 impl Tape {
     // A tape on which no ledger has written.
@@ -44,11 +45,10 @@ impl Tape {
         &self.records[0..self.len]
     }
 
-    fn count_of(&self, ledger: u8) -> usize
-        requires { ledger < 8 }
-        ensures { result ≡ length (entries_of self.now ledger) }
+    fn count_of(&self, ledger: Ledger) -> usize
+        ensures { result ≡ length (entries_of self.now ledger.number) }
     {
-        self.tracks[ledger as usize].count
+        self.tracks[ledger.index()].count
     }
 
     // Every record comes in here: at most eight of each ledger, so that the 64 places suffice.
@@ -82,9 +82,9 @@ impl Journals for Tape {
         ensures after { entries_of self.new ≡ append_after (entries_of self.old) ledger code }
         ensures records { records_of self.new ≡ (if is_ok result then records_of self.old ++ (record { ledger = ledger; code = code } ∷ []) else records_of self.old) }
     {
-        check_ledger(ledger)?;
+        let known = check_ledger(ledger)?;
         known_entry(ledger, code)?;
-        if self.count_of(ledger) >= ENTRIES {
+        if self.count_of(known) >= ENTRIES {
             return Err(JournalsFault::of(ledger, JournalsRefusal::JournalFull));
         }
         self.push(Record { ledger, code });
@@ -98,7 +98,6 @@ impl Journals for Tape {
     }
 
     fn count(&self, ledger: u8) -> Result<usize, JournalsFault> {
-        check_ledger(ledger)?;
-        Ok(self.count_of(ledger))
+        Ok(self.count_of(check_ledger(ledger)?))
     }
 }

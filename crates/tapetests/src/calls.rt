@@ -1,56 +1,41 @@
 // The same calls on the rows and on the tape.
-use journals::entry::Entry;
-use journals::fault::JournalsFault;
+use journals::entry::{Entry, NoEntry};
 use journals::rows::Rows;
 use journals::set::Journals;
+use ledgers::fault::{Fault, refusal};
 use std::process::Abort;
 use std::test::Fail;
 use tape::Tape;
 
-// The answer as a number: 0, or the refusal's.
-fn number(answer: Result<(), JournalsFault>) -> u8 {
-    match answer {
-        Ok(()) => 0,
-        Err(fault) => fault.number(),
-    }
-}
-
-fn number_of_read(answer: Result<u8, JournalsFault>) -> u8 {
-    match answer {
-        Ok(_) => 0,
-        Err(fault) => fault.number(),
-    }
-}
-
 fn exercise<J: Journals>(rt: &impl Abort, journals: &mut J) -> Result<(), Fail> {
-    // Ledger, code, answer: an unknown ledger goes before an unknown code.
+    // Ledger, code, refusal: an unknown ledger goes before an unknown code.
     let appends = [
-        (0, 1, 0),
-        (7, 10, 0),
-        (0, 4, 0),
-        (8, 1, 2),
-        (8, 0, 2),
-        (255, 11, 2),
-        (0, 0, 13),
-        (0, 11, 13),
+        (0, 1, None),
+        (7, 10, None),
+        (0, 4, None),
+        (8, 1, Some(2)),
+        (8, 0, Some(2)),
+        (255, 11, Some(2)),
+        (0, 0, Some(13)),
+        (0, 11, Some(13)),
     ];
-    for (ledger, code, answer) in appends {
-        assert_eq!(rt; number(journals.append(ledger, code)), answer);
+    for (ledger, code, refused) in appends {
+        assert_eq!(rt; refusal(journals.append(ledger, code)), refused);
     }
     for _ in 0..6 {
-        assert_eq!(rt; number(journals.append(0, 9)), 0);
+        assert_eq!(rt; refusal(journals.append(0, 9)), None);
     }
-    assert_eq!(rt; number(journals.append(0, 9)), 12);
-    assert_eq!(rt; number(journals.append(0, 0)), 13);
+    assert_eq!(rt; refusal(journals.append(0, 9)), Some(12));
+    assert_eq!(rt; refusal(journals.append(0, 0)), Some(13));
     assert_eq!(rt; journals.count(0)?, 8);
     assert_eq!(rt; journals.count(7)?, 1);
     assert_eq!(rt; journals.count(3)?, 0);
     assert_eq!(rt; journals.read(0, 1)?, 4);
     assert_eq!(rt; journals.read(0, 7)?, 9);
     assert_eq!(rt; journals.read(7, 0)?, 10);
-    assert_eq!(rt; number_of_read(journals.read(0, 8)), 7);
-    assert_eq!(rt; number_of_read(journals.read(3, 0)), 7);
-    assert_eq!(rt; number_of_read(journals.read(8, 0)), 2);
+    assert_eq!(rt; refusal(journals.read(0, 8)), Some(7));
+    assert_eq!(rt; refusal(journals.read(3, 0)), Some(7));
+    assert_eq!(rt; refusal(journals.read(8, 0)), Some(2));
     Ok(())
 }
 
@@ -77,11 +62,11 @@ fn faults(rt: HostRuntime) -> Result<(), Fail> {
 
 #[test]
 fn entry_codes(rt: HostRuntime) {
-    for code in 0..12u8 {
-        match Entry::from_code(code) {
-            Some(entry) => assert_eq!(rt; entry.code(), code),
-            None => assert!(rt; code == 0 || code == 11),
-        }
+    for code in 1..11u8 {
+        assert_eq!(rt; Entry::try_from(code).map(|entry| entry.code()), Ok(code));
+    }
+    for code in [0, 11] {
+        assert_eq!(rt; Entry::try_from(code), Err(NoEntry(code)));
     }
     assert!(rt; Entry::TransactionCommit.is_decision());
     assert!(rt; !Entry::Dispute.is_decision());

@@ -1,4 +1,5 @@
 // Tapes that are whole, and tapes that are torn.
+use ledgers::fault::refusal;
 use report::verdict::tape_verdict;
 use std::test::Fail;
 use tape::Tape;
@@ -7,35 +8,27 @@ const SAMPLE: [u8; 12] = [0, 1, 0, 0, 1, 2, 0, 0, 0, 4, 8, 0];
 
 // Eight records of each of the eight ledgers, in turn.
 fn full_tape() -> [u8; 256] {
-    let mut bytes = [0u8; 256];
-    for i in 0..64usize {
-        bytes[4 * i] = (i % 8) as u8;
-        bytes[4 * i + 1] = (i % 10) as u8 + 1;
-        if i >= 8 {
-            bytes[4 * i + 2] = 32;
-        }
+    let mut bytes = [0; 256];
+    for (i, record) in bytes.chunks_exact_mut(4).enumerate() {
+        let low = if i < 8 { 0 } else { 32 };
+        record.copy_from_slice(&[(i % 8) as u8, (i % 10) as u8 + 1, low, 0]);
     }
     bytes
 }
 
 // Nine records of ledger 0.
 fn nine_records() -> [u8; 36] {
-    let mut bytes = [0u8; 36];
-    for i in 0..9usize {
-        bytes[4 * i + 1] = 1;
-        if i > 0 {
-            bytes[4 * i + 2] = 4;
-        }
+    let mut bytes = [0; 36];
+    for (i, record) in bytes.chunks_exact_mut(4).enumerate() {
+        let low = if i == 0 { 0 } else { 4 };
+        record.copy_from_slice(&[0, 1, low, 0]);
     }
     bytes
 }
 
 // The place where the bytes are torn.
 fn tear(bytes: &[u8]) -> Option<usize> {
-    match Tape::from_bytes(bytes) {
-        Ok(_) => None,
-        Err(fault) => fault.place(),
-    }
+    Tape::from_bytes(bytes).err()?.place()
 }
 
 #[test]
@@ -112,10 +105,7 @@ fn written_again(rt: HostRuntime) -> Result<(), Fail> {
     assert!(rt; full.as_slice() == &buffer[0..256]);
     assert!(rt; &buffer[256..260] == [7, 7, 7, 7].as_slice());
     let mut short = [7u8; 255];
-    match tape.write_to(&mut short) {
-        Ok(_) => return Err(Fail::new("a short buffer was taken")),
-        Err(fault) => assert_eq!(rt; fault.number(), 14),
-    }
+    assert_eq!(rt; refusal(tape.write_to(&mut short)), Some(14));
     assert!(rt; short == [7u8; 255]);
     Ok(())
 }

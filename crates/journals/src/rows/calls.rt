@@ -11,6 +11,7 @@ use crate::entry::Entry;
 use crate::fault::{JournalsFault, JournalsRefusal};
 use crate::limits::{ENTRIES, LEDGERS, check_ledger, known_entry};
 use crate::set::Journals;
+use ledgers::ledger::Ledger;
 
 impl Row {
     fn len(&self) -> usize
@@ -53,19 +54,17 @@ impl Rows {
         }
     }
 
-    fn row_of(&self, ledger: u8) -> Row
-        requires { ledger < 8 }
-        ensures { codes result ≡ entries_of self.now ledger }
+    fn row_of(&self, ledger: Ledger) -> Row
+        ensures { codes result ≡ entries_of self.now ledger.number }
     {
-        self.rows[ledger as usize]
+        self.rows[ledger.index()]
     }
 
     // Every change of a row comes in here.
-    fn store(&mut self, ledger: u8, row: Row)
-        requires { ledger < 8 }
-        ensures { entries_of self.new ≡ with_list (entries_of self.old) ledger (codes row) }
+    fn store(&mut self, ledger: Ledger, row: Row)
+        ensures { entries_of self.new ≡ with_list (entries_of self.old) ledger.number (codes row) }
     {
-        self.rows[ledger as usize] = row;
+        self.rows[ledger.index()] = row;
     }
 }
 
@@ -79,25 +78,23 @@ impl Journals for Rows {
     ghost bounded = { entries_past };
 
     fn append(&mut self, ledger: u8, code: u8) -> Result<(), JournalsFault> {
-        check_ledger(ledger)?;
+        let known = check_ledger(ledger)?;
         let entry = known_entry(ledger, code)?;
-        let mut row = self.row_of(ledger);
+        let mut row = self.row_of(known);
         if row.len() >= ENTRIES {
             return Err(JournalsFault::of(ledger, JournalsRefusal::JournalFull));
         }
         row.push(entry);
-        self.store(ledger, row);
+        self.store(known, row);
         Ok(())
     }
 
     fn read(&self, ledger: u8, place: usize) -> Result<u8, JournalsFault> {
-        check_ledger(ledger)?;
-        let code = self.row_of(ledger).code_at(place);
+        let code = self.row_of(check_ledger(ledger)?).code_at(place);
         code.ok_or(JournalsFault::of(ledger, JournalsRefusal::NothingThere))
     }
 
     fn count(&self, ledger: u8) -> Result<usize, JournalsFault> {
-        check_ledger(ledger)?;
-        Ok(self.row_of(ledger).len())
+        Ok(self.row_of(check_ledger(ledger)?).len())
     }
 }
