@@ -9,7 +9,7 @@ use Rattle.rules.specs.Ledgers.{first_missing, is_in}
 use Rattle.rules.specs.Rules.{above}
 use Rattle.rules.specs.Stages.{counts, held, initial, leads}
 use Rattle.rules.specs.declared.effect.Response.{Response}
-use Rattle.rules.specs.declared.ledgers.LedgerSet.{LedgerSet}
+use Rattle.rules.specs.declared.ledger_set.LedgerSet.{LedgerSet}
 use Rattle.rules.specs.declared.stage.Stage.{Stage}
 use Rattle.rules.specs.declared.stage.Stage.TheVariants.{Initial, Preparing, Wait, Voting, Ready, Asking, Consulting, Announcing, Announced, Decided}
 use Rattle.protocol.specs.Bounded.{all_below}

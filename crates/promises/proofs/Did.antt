@@ -10,7 +10,7 @@ use Rattle.network.specs.declared.message.Vote.{Vote}
 use Rattle.network.specs.declared.message.Vote.TheVariants.{Yes, No}
 use Rattle.std.proofs.lemmas.List.{get_or-set_other}
 use Rattle.rules.specs.Ledgers.{empty, first_missing, is_in, with_ledger}
-use Rattle.rules.specs.declared.ledgers.LedgerSet.{LedgerSet}
+use Rattle.rules.specs.declared.ledger_set.LedgerSet.{LedgerSet}
 use Rattle.rules.specs.declared.stage.Stage.{Stage}
 use Rattle.rules.specs.declared.stage.Stage.TheVariants.{Initial, Preparing, Wait, Voting, Ready, Asking, Consulting, Announcing, Announced, Decided}
 use Rattle.promises.specs.Promises.{opposite}

@@ -4,7 +4,7 @@ use Rattle.std.proofs.lemmas.List.{get_or_past, get_or-replicate, get_or-set_sam
 use Rattle.std.proofs.lemmas.Bool.{cases_eq, cases_lt}
 use Rattle.std.proofs.lemmas.Bool.Decides.{nat_tests}
 use Rattle.rules.specs.Ledgers.{empty, is_in, missing_from, first_missing, with_ledger}
-use Rattle.rules.specs.declared.ledgers.LedgerSet.{LedgerSet}
+use Rattle.rules.specs.declared.ledger_set.LedgerSet.{LedgerSet}
 
 -- one ledger more
 pub in_with : (s : LedgerSet) (q x : ℕ) → length s.members ≡ 8 → q < 8 → is_in (with_ledger s q) x ≡ (eqb x q || is_in s x)

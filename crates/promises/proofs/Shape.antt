@@ -8,7 +8,7 @@ use Rattle.network.specs.declared.message.Vote.TheVariants.{Yes, No}
 use Rattle.rules.specs.Ledgers.{empty, first_missing, is_in, with_ledger}
 use Rattle.rules.specs.Rules.{above, in_stage, with_notice, with_reply, with_vote}
 use Rattle.rules.specs.Stages.{counts, held, initial, leads}
-use Rattle.rules.specs.declared.ledgers.LedgerSet.{LedgerSet}
+use Rattle.rules.specs.declared.ledger_set.LedgerSet.{LedgerSet}
 use Rattle.rules.specs.declared.row.Row.{Row}
 use Rattle.rules.specs.declared.stage.Stage.{Stage}
 use Rattle.rules.specs.declared.stage.Stage.TheVariants.{Initial, Preparing, Wait, Voting, Ready, Asking, Consulting, Announcing, Announced, Decided}

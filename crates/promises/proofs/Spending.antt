@@ -17,7 +17,7 @@ use Rattle.rules.specs.Stages.{counts, held, initial, leads}
 use Rattle.rules.specs.declared.effect.Effect.{Effect}
 use Rattle.rules.specs.declared.effect.Effect.TheVariants.{Nothing, Write, Send}
 use Rattle.rules.specs.declared.effect.Response.{Response}
-use Rattle.rules.specs.declared.ledgers.LedgerSet.{LedgerSet}
+use Rattle.rules.specs.declared.ledger_set.LedgerSet.{LedgerSet}
 use Rattle.rules.specs.declared.row.Member.{Member}
 use Rattle.rules.specs.declared.row.Row.{Row}
 use Rattle.rules.specs.declared.stage.Stage.{Stage}

@@ -1,6 +1,6 @@
 -- Sets of ledgers.
 use Rattle.std.specs.Prelude.{ℕ, zero, suc, ◌+◌, ◌-◌, Bool, true, false, cond, ◌||◌, replicate, Some, None, Option, slice_index_or, slice_set}
-use Rattle.rules.specs.declared.ledgers.LedgerSet.{LedgerSet}
+use Rattle.rules.specs.declared.ledger_set.LedgerSet.{LedgerSet}
 
 abbrev pub empty : LedgerSet
 empty = record { members = replicate 8 false }

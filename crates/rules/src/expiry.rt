@@ -1,23 +1,13 @@
 // What a ledger does when it finds that another does not answer.
 ghost use Rattle.std.specs.Prelude.{◌≡◌};
-ghost use Rattle.rules.specs.Rules.{coordinator_lacks, lead, on_expiry, participant_notices, with_notice};
+ghost use Rattle.rules.specs.Rules.{coordinator_lacks, lead, on_expiry, participant_notices};
 
 use crate::effect::Response;
-use crate::ledgers::{LedgerSet, first_missing};
+use crate::ledger_set::{LedgerSet, first_missing};
 use crate::row::{Member, Row};
 use crate::stage::Stage;
 use journals::entry::Entry;
 use network::message::Decision;
-
-impl Row {
-    fn with_notice(self, ledger: u8) -> Row
-        ensures { result ≡ with_notice self ledger }
-    {
-        let mut row = self;
-        row.noticed = self.noticed.with(ledger);
-        row
-    }
-}
 
 impl Member {
     // Begins a round: no reply of an earlier one counts any more.
@@ -26,13 +16,13 @@ impl Member {
     {
         match first {
             None => self.announce(row, Decision::Drop, Entry::AbortReached),
-            Some(higher) => {
-                let mut leader = row;
-                leader.stage = Stage::Asking(higher);
-                leader.round = row.round.saturating_add(1);
-                leader.replied = LedgerSet::new();
-                leader.quiet()
+            Some(higher) => Row {
+                stage: Stage::Asking(higher),
+                round: row.round.saturating_add(1),
+                replied: LedgerSet::new(),
+                ..row
             }
+            .quiet(),
         }
     }
 
@@ -48,16 +38,12 @@ impl Member {
     fn participant_notices(self, row: Row) -> Response
         ensures { result ≡ participant_notices self row }
     {
-        match first_missing(row.noticed, row.noticed, 0, self.number) {
-            Some(_) => row.quiet(),
-            None => {
-                let above = self.number.saturating_add(1);
-                self.lead(
-                    row,
-                    first_missing(row.noticed, row.noticed, above, self.ledgers),
-                )
-            }
+        let noticed = row.noticed;
+        if first_missing(noticed, noticed, 0, self.number).is_some() {
+            return row.quiet();
         }
+        let above = self.number.saturating_add(1);
+        self.lead(row, first_missing(noticed, noticed, above, self.ledgers))
     }
 
     // What the ledger does when it notices that another does not answer.

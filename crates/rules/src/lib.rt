@@ -4,7 +4,7 @@
 mod announcement;
 pub mod effect;
 pub mod expiry;
-pub mod ledgers;
+pub mod ledger_set;
 pub mod messages;
 pub mod row;
 pub mod stage;

@@ -1,60 +1,14 @@
 // What a ledger does with a message.
 ghost use Rattle.std.specs.Prelude.{◌≡◌};
 ghost use Rattle.rules.specs.Entries.{reached, ready, received};
-ghost use Rattle.rules.specs.Rules.{announce, counted, denied, in_stage, on_denial, on_message, on_order, on_prepare, on_vote, outcome, quiet, same, with_reply, with_vote};
+ghost use Rattle.rules.specs.Rules.{announce, counted, denied, on_denial, on_message, on_order, on_prepare, on_vote, outcome};
 
 use crate::effect::{Effect, Response};
-use crate::ledgers::first_missing;
+use crate::ledger_set::first_missing;
 use crate::row::{Member, Row};
 use crate::stage::Stage;
 use journals::entry::Entry;
 use network::message::{Decision, Message, Vote};
-
-impl Row {
-    // The row in another stage.
-    pub fn in_stage(self, stage: Stage) -> Row
-        ensures { result ≡ in_stage self stage }
-    {
-        let mut row = self;
-        row.stage = stage;
-        row
-    }
-
-    // The row becomes what a rule made of it.
-    pub fn follow(&mut self, row: Row)
-        ensures { self.new ≡ row }
-    {
-        *self = row;
-    }
-
-    fn with_vote(self, sender: u8, vote: Vote) -> Row
-        ensures { result ≡ with_vote self sender vote }
-    {
-        let mut row = self;
-        match vote {
-            Vote::Yes => row.ayes = self.ayes.with(sender),
-            Vote::No => row.noes = self.noes.with(sender),
-        }
-        row
-    }
-
-    fn with_reply(self, sender: u8) -> Row
-        ensures { result ≡ with_reply self sender }
-    {
-        let mut row = self;
-        row.replied = self.replied.with(sender);
-        row
-    }
-
-    pub(crate) fn quiet(self) -> Response
-        ensures { result ≡ quiet self }
-    {
-        Response {
-            row: self,
-            effect: Effect::Nothing,
-        }
-    }
-}
 
 // The entry that says that the ledger is ready with its vote.
 fn ready(vote: Vote) -> Entry
@@ -86,55 +40,32 @@ fn received(decision: Decision) -> Entry
     }
 }
 
-fn same(one: Decision, other: Decision) -> bool
-    ensures { result ≡ same one other }
-{
-    match one {
-        Decision::Post => match other {
-            Decision::Post => true,
-            Decision::Drop => false,
-        },
-        Decision::Drop => match other {
-            Decision::Post => false,
-            Decision::Drop => true,
-        },
-    }
-}
-
 impl Member {
     // Writes a decision down, to pass it on from the lowest other ledger upwards.
     pub(crate) fn announce(self, row: Row, decision: Decision, entry: Entry) -> Response
         ensures { result ≡ announce self row decision entry }
     {
         let first = if self.number == 0 { 1 } else { 0 };
-        Response {
-            row: row.in_stage(Stage::Announcing(decision, first)),
-            effect: Effect::Write(entry),
-        }
+        row.writes(Stage::Announcing(decision, first), entry)
     }
 
     fn on_prepare(self, row: Row) -> Response
         ensures { result ≡ on_prepare self row }
     {
-        match row.stage {
-            Stage::Initial if self.number != 0 => Response {
-                row: row.in_stage(Stage::Voting),
-                effect: Effect::Write(ready(self.vote)),
-            },
-            _ => row.quiet(),
+        if !row.stage.is_initial() || self.number == 0 {
+            return row.quiet();
         }
+        row.writes(Stage::Voting, ready(self.vote))
     }
 
     // Post if every vote is yes, this ledger's own among them.
     fn outcome(self, row: Row) -> Decision
         ensures { result ≡ outcome self row }
     {
-        match self.vote {
-            Vote::No => Decision::Drop,
-            Vote::Yes => match first_missing(row.ayes, row.ayes, 1, self.ledgers) {
-                Some(_) => Decision::Drop,
-                None => Decision::Post,
-            },
+        if self.vote == Vote::Yes && first_missing(row.ayes, row.ayes, 1, self.ledgers).is_none() {
+            Decision::Post
+        } else {
+            Decision::Drop
         }
     }
 
@@ -142,13 +73,11 @@ impl Member {
     fn counted(self, row: Row) -> Response
         ensures { result ≡ counted self row }
     {
-        match first_missing(row.ayes, row.noes, 1, self.ledgers) {
-            Some(_) => row.quiet(),
-            None => {
-                let decision = self.outcome(row);
-                self.announce(row, decision, reached(decision))
-            }
+        if first_missing(row.ayes, row.noes, 1, self.ledgers).is_some() {
+            return row.quiet();
         }
+        let decision = self.outcome(row);
+        self.announce(row, decision, reached(decision))
     }
 
     fn on_vote(self, row: Row, sender: u8, vote: Vote) -> Response
@@ -165,15 +94,11 @@ impl Member {
     {
         match row.stage.held() {
             None => self.announce(row, decision, received(decision)),
-            Some(own) => {
-                if same(own, decision) || disputed {
-                    return row.quiet();
-                }
-                Response {
-                    row,
-                    effect: Effect::Write(Entry::Dispute),
-                }
-            }
+            Some(own) if own == decision || disputed => row.quiet(),
+            Some(_) => Response {
+                row,
+                effect: Effect::Write(Entry::Dispute),
+            },
         }
     }
 
@@ -181,15 +106,11 @@ impl Member {
     fn denied(self, row: Row) -> Response
         ensures { result ≡ denied self row }
     {
-        match first_missing(
-            row.noticed,
-            row.replied,
-            self.number.saturating_add(1),
-            self.ledgers,
-        ) {
-            Some(_) => row.quiet(),
-            None => self.announce(row, Decision::Drop, Entry::AbortReached),
+        let above = self.number.saturating_add(1);
+        if first_missing(row.noticed, row.replied, above, self.ledgers).is_some() {
+            return row.quiet();
         }
+        self.announce(row, Decision::Drop, Entry::AbortReached)
     }
 
     // A reply that holds no decision.
@@ -210,16 +131,10 @@ impl Member {
             Message::Prepare => self.on_prepare(row),
             Message::Vote(vote) => self.on_vote(row, sender, vote),
             Message::Order(decision) => self.on_order(row, decision, disputed),
-            Message::Ask { round } => Response {
-                row,
-                effect: Effect::Send(
-                    sender,
-                    Message::Reply {
-                        round,
-                        decision: row.stage.held(),
-                    },
-                ),
-            },
+            Message::Ask { round } => {
+                let decision = row.stage.held();
+                row.sends(row.stage, sender, Message::Reply { round, decision })
+            }
             Message::Reply { round, decision } => match decision {
                 Some(decision) => self.on_order(row, decision, disputed),
                 None => self.on_denial(row, sender, round),

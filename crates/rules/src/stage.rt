@@ -5,7 +5,7 @@ ghost use Rattle.rules.specs.Stages.{counts, held, initial, leads};
 use network::message::Decision;
 
 // Whether a ledger's machine runs.
-#[derive(Clone, Copy)]
+#[derive(Clone, Copy, Debug, PartialEq, Eq)]
 pub enum Status {
     Stopped,
     Running,
@@ -13,7 +13,7 @@ pub enum Status {
 }
 
 // The numbers are the ledgers that the next message goes to.
-#[derive(Clone, Copy)]
+#[derive(Clone, Copy, Debug, PartialEq, Eq)]
 pub enum Stage {
     Initial,
     Preparing(u8),
@@ -33,9 +33,9 @@ impl Stage {
         ensures { result ≡ held self }
     {
         match self {
-            Stage::Announcing(decision, _) => Some(decision),
-            Stage::Announced(decision) => Some(decision),
-            Stage::Decided(decision) => Some(decision),
+            Stage::Announcing(decision, _)
+            | Stage::Announced(decision)
+            | Stage::Decided(decision) => Some(decision),
             _ => None,
         }
     }
@@ -44,29 +44,20 @@ impl Stage {
     pub fn is_initial(self) -> bool
         ensures { result ≡ initial self }
     {
-        match self {
-            Stage::Initial => true,
-            _ => false,
-        }
+        matches!(self, Stage::Initial)
     }
 
     // Whether votes count here.
     pub fn counts(self) -> bool
         ensures { result ≡ counts self }
     {
-        match self {
-            Stage::Preparing(_) | Stage::Wait => true,
-            _ => false,
-        }
+        matches!(self, Stage::Preparing(_) | Stage::Wait)
     }
 
     // Whether the ledger leads: it asks the higher ones, or waits for their replies.
     pub fn leads(self) -> bool
         ensures { result ≡ leads self }
     {
-        match self {
-            Stage::Asking(_) | Stage::Consulting => true,
-            _ => false,
-        }
+        matches!(self, Stage::Asking(_) | Stage::Consulting)
     }
 }

@@ -15,7 +15,7 @@ use network::link::Network;
 use protocol::fault::{FloorFault, FloorRefusal};
 use protocol::recovery::{Finding, Recovery};
 use rules::effect::{Effect, Response};
-use rules::ledgers::LedgerSet;
+use rules::ledger_set::LedgerSet;
 use rules::row::{Member, Row};
 use rules::stage::{Stage, Status};
 

@@ -96,6 +96,33 @@ impl OpenAnnouncement {
     }
 }
 
+impl Announcement {
+    // The stage that keeps its numbers between two steps.
+    pub(crate) fn kept(self) -> Stage
+        ensures { result ≡ kept self }
+    {
+        match self {
+            Announcement::Open(open) => {
+                let OpenAnnouncement {
+                    owner: _,
+                    decision,
+                    next,
+                } = open;
+                Stage::Announcing(decision, next)
+            }
+            Announcement::Sent(sent) => {
+                let SentAnnouncement {
+                    owner: _,
+                    decision,
+                    past: _,
+                    ledgers: _,
+                } = sent;
+                Stage::Announced(decision)
+            }
+        }
+    }
+}
+
 impl SentAnnouncement {
     // The decision is obeyed.
     pub(crate) fn close(self, row: Row) -> Response
@@ -107,9 +134,6 @@ impl SentAnnouncement {
             past: _,
             ledgers: _,
         } = self;
-        Response {
-            row: row.in_stage(Stage::Decided(decision)),
-            effect: Effect::Write(obeyed(decision)),
-        }
+        row.writes(Stage::Decided(decision), obeyed(decision))
     }
 }

@@ -1,13 +1,12 @@
 // Sets of ledgers.
-ghost use Rattle.std.specs.Prelude.{◌≡◌, false, ◌||◌, slice_index_or};
-ghost use Rattle.rules.specs.Ledgers.{empty, first_missing, is_in, with_ledger};
+ghost use Rattle.std.specs.Prelude.{◌≡◌, false, slice_index_or};
+ghost use Rattle.rules.specs.Ledgers.{empty, first_missing, with_ledger};
 
-// The ledgers are numbered from 0 to 7.
-pub const LEDGERS: u8 = 8;
+use ledgers::ledger::{LEDGERS, Ledger};
 
-#[derive(Clone, Copy)]
+#[derive(Clone, Copy, Debug, PartialEq, Eq)]
 pub struct LedgerSet {
-    pub members: [bool; 8],
+    pub members: [bool; LEDGERS],
 }
 
 impl LedgerSet {
@@ -15,7 +14,7 @@ impl LedgerSet {
         ensures { result ≡ empty }
     {
         LedgerSet {
-            members: [false; 8],
+            members: [false; LEDGERS],
         }
     }
 
@@ -23,36 +22,24 @@ impl LedgerSet {
     pub fn contains(&self, ledger: u8) -> bool
         ensures { result ≡ slice_index_or self.now.members ledger false }
     {
-        ledger < LEDGERS && self.members[ledger as usize]
+        self.members.get(ledger as usize).copied().unwrap_or(false)
     }
 
     // The set with one ledger more.
     pub fn with(self, ledger: u8) -> LedgerSet
         ensures { result ≡ with_ledger self ledger }
     {
-        if ledger >= LEDGERS {
-            return self;
-        }
         let mut members = self.members;
-        members[ledger as usize] = true;
+        if let Some(ledger) = Ledger::new(ledger) {
+            members[ledger.index()] = true;
+        }
         LedgerSet { members }
     }
-}
-
-fn in_either(one: LedgerSet, other: LedgerSet, ledger: u8) -> bool
-    ensures { result ≡ (is_in one ledger || is_in other ledger) }
-{
-    one.contains(ledger) || other.contains(ledger)
 }
 
 // The lowest ledger at or after `from` and below `end` that is in neither set.
 pub fn first_missing(one: LedgerSet, other: LedgerSet, from: u8, end: u8) -> Option<u8>
     ensures { result ≡ first_missing one other from end }
 {
-    for ledger in from..end {
-        if !in_either(one, other, ledger) {
-            return Some(ledger);
-        }
-    }
-    None
+    (from..end).find(|&ledger| !(one.contains(ledger) || other.contains(ledger)))
 }
