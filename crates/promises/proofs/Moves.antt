@@ -1,16 +1,17 @@
 -- What a call does to the floor: nothing, or one ledger moves.
-use Rattle.std.proofs.Common.{◌≡◌, ℕ, ◌+◌, ◌-◌, ◌^◌, ◌<◌, ◌≤◌, min, Bool, true, false, cond, ◌&&◌, ◌||◌, eqb, ◌≢◌, ◌⊎◌, List, [], ◌∷◌, ◌++◌, length, drop, is_some, is_ok, Some, Ok, Err, Result, sym, refl, ap, ◌∙◌, inl, inr, ⊎_elim, arith, subst}
+use Rattle.std.proofs.Common.{◌≡◌, ℕ, ◌+◌, ◌-◌, ◌^◌, ◌<◌, ◌≤◌, min, Bool, true, false, cond, ◌&&◌, ◌||◌, eqb, ◌≢◌, ◌⊎◌, List, [], ◌∷◌, ◌++◌, length, drop, set, is_some, is_ok, Some, Ok, Err, Result, sym, refl, ap, ◌∙◌, inl, inr, ⊎_elim, arith}
+use Rattle.std.proofs.Math.Path.{subst₂}
 use Rattle.std.proofs.lemmas.List.{length-set, get_or-set_same, get_or-set_other}
 use Rattle.std.proofs.lemmas.Bool.{and_parts, cases_eq, eq-eqb, eqb-true, ne_eqb, or_cases, or_right}
 use Rattle.std.proofs.lemmas.Bool.Decides.{nat_tests}
 use Rattle.std.specs.Option.{ok_or}
 use Rattle.std.specs.List.{slice_get}
-use Rattle.journals.specs.Calls.{append_answer}
+use Rattle.journals.specs.Calls.{Entries, append_answer}
 use Rattle.journals.specs.Codes.{code_of}
 use Rattle.journals.specs.declared.entry.Entry.TheVariants.{Begin as BegunEntry}
 use Rattle.journals.specs.declared.fault.JournalsFault.{JournalsFault}
 use Rattle.network.proofs.LinkFacts.{own_link}
-use Rattle.network.specs.Links.{Links, is_link, look_answer, put_answer}
+use Rattle.network.specs.Links.{Links, is_link, look_answer, put_answer, take_after}
 use Rattle.network.specs.declared.fault.NetworkFault.{NetworkFault}
 use Rattle.network.specs.declared.message.Message.{Message}
 use Rattle.network.specs.declared.message.Vote.{Vote}
@@ -161,46 +162,37 @@ ok_network (Ok x) = refl
 ok_network (Err fault) = refl
 
 module _ (depth : ℕ) (s : State) (p : ℕ) (long : p < length s.rows) (row : Row) where
-  performs : (effect : Effect) → is_ok (perform_answer depth s p effect) ≡ true → Changes s p steps (record { row = row; effect = effect }) (performed depth s p row effect)
-  performs Nothing ok = record {
+  -- p's row is stored, and the rest comes to what its effect says
+  stored : (effect : Effect) (links : Links) (entries : Entries) (sent : ℕ)
+      → entries p ≡ written effect (s.entries p) → ((a : ℕ) → a ≢ p → entries a ≡ s.entries a)
+      → ((a b : ℕ) → links a b ≡ gave p effect a b (s.links a b)) → sent ≡ total effect s.sent
+      → Changes s p steps (record { row = row; effect = effect }) (record { ledgers = s.ledgers; votes = s.votes; rows = set s.rows p row; links = links; entries = entries; sent = sent })
+  stored effect links entries sent own other link then = record {
     same_ledgers = refl;
     same_votes = refl;
     same_length = length-set s.rows p row;
     own_row = get_or-set_same s.rows p row _ long;
     other_row = λ a other. get_or-set_other s.rows p a row _ other;
-    own_entries = refl;
-    other_entries = λ a other. refl;
-    link = λ a b. refl;
-    sent_then = refl;
+    own_entries = own;
+    other_entries = other;
+    link = link;
+    sent_then = then;
   }
-  performs (Write entry) ok =
-      let room = sym (ok_journals (append_answer s.entries p (code_of entry))) ∙ ok in record {
-        same_ledgers = refl;
-        same_votes = refl;
-        same_length = length-set s.rows p row;
-        own_row = get_or-set_same s.rows p row _ long;
-        other_row = λ a other. get_or-set_other s.rows p a row _ other;
-        own_entries = rw (room, eq-eqb p p refl);
-        other_entries = λ a other. rw (room, ne_eqb p a (λ e. other (sym e)));
-        link = λ a b. refl;
-        sent_then = refl;
-      }
-  performs (Send q message) ok =
-      let room = sym (ok_network (put_answer depth s.links p q)) ∙ ok in record {
-        same_ledgers = refl;
-        same_votes = refl;
-        same_length = length-set s.rows p row;
-        own_row = get_or-set_same s.rows p row _ long;
-        other_row = λ a other. get_or-set_other s.rows p a row _ other;
-        own_entries = refl;
-        other_entries = λ a other. refl;
-        link = λ a b. rw room (sym (own_link s.links (λ link. link ++ (message ∷ [])) p q a b));
-        sent_then = refl;
-      }
 
--- the same change, made by an input that takes no message
-by_input : (s : State) (p : ℕ) (input : Input) (r : Response) (s' : State) → ((a b : ℕ) (link : List Message) → took p input a b link ≡ link) → Changes s p steps r s' → Changes s p input r s'
-by_input s p input r s' still c = record {
+  performs : (effect : Effect) → is_ok (perform_answer depth s p effect) ≡ true → Changes s p steps (record { row = row; effect = effect }) (performed depth s p row effect)
+  performs Nothing ok = stored Nothing _ _ _ refl (λ a other. refl) (λ a b. refl) refl
+  performs (Write entry) ok =
+      let room = sym (ok_journals (append_answer s.entries p (code_of entry))) ∙ ok in
+      stored (Write entry) _ _ _ (rw (room, eq-eqb p p refl)) (λ a other. rw (room, ne_eqb p a (λ e. other (sym e)))) (λ a b. refl) refl
+  performs (Send q message) ok =
+      let room = sym (ok_network (put_answer depth s.links p q)) ∙ ok in
+      stored (Send q message) _ _ _ refl (λ a other. refl) (λ a b. rw room (sym (own_link s.links (λ link. link ++ (message ∷ [])) p q a b))) refl
+
+-- the same change but for the links, which the input leaves as these
+relinked : (s : State) (p : ℕ) (input : Input) (r : Response) (s' : State) (links : Links)
+    → ((a b : ℕ) → links a b ≡ took p input a b (gave p r.effect a b (s.links a b)))
+    → Changes s p steps r s' → Changes s p input r (record { ledgers = s'.ledgers; votes = s'.votes; rows = s'.rows; links = links; entries = s'.entries; sent = s'.sent })
+relinked s p input r s' links link c = record {
   same_ledgers = c.same_ledgers;
   same_votes = c.same_votes;
   same_length = c.same_length;
@@ -208,9 +200,13 @@ by_input s p input r s' still c = record {
   other_row = c.other_row;
   own_entries = c.own_entries;
   other_entries = c.other_entries;
-  link = λ a b. c.link a b ∙ sym (still a b (gave p r.effect a b (s.links a b)));
+  link = link;
   sent_then = c.sent_then;
 }
+
+-- the same change, made by an input that takes no message
+by_input : (s : State) (p : ℕ) (input : Input) (r : Response) (s' : State) → ((a b : ℕ) (link : List Message) → took p input a b link ≡ link) → Changes s p steps r s' → Changes s p input r s'
+by_input s p input r s' still c = relinked s p input r s' s'.links (λ a b. c.link a b ∙ sym (still a b (gave p r.effect a b (s.links a b)))) c
 
 -- what p gives goes to another link than what comes to it
 pub gave_away : (p : ℕ) (effect : Effect) (q : ℕ) (link : List Message) → q ≢ p → gave p effect q p link ≡ link
@@ -225,17 +221,10 @@ with_first : (s : State) (p : ℕ) (input : Input) (r : Response) (s' : State) (
     → Changes s p steps r s' → Changes s p input r (without_first s' q p)
 with_first s p input r s' q other there takes c =
     let same : s'.links q p ≡ s.links q p = c.link q p ∙ gave_away p r.effect q (s.links q p) other in
-    let still : is_ok (look_answer s'.links q p) ≡ true = rw same there in record {
-      same_ledgers = c.same_ledgers;
-      same_votes = c.same_votes;
-      same_length = c.same_length;
-      own_row = c.own_row;
-      other_row = c.other_row;
-      own_entries = c.own_entries;
-      other_entries = c.other_entries;
-      link = λ a b. rw still (sym (own_link s'.links (drop 1) q p a b) ∙ rw (c.link a b) (sym (takes a b (gave p r.effect a b (s.links a b)))));
-      sent_then = c.sent_then;
-    }
+    let still : is_ok (look_answer s'.links q p) ≡ true = rw same there in
+    relinked s p input r s' (take_after s'.links q p)
+    (λ a b. rw still (sym (own_link s'.links (drop 1) q p a b) ∙ rw (c.link a b) (sym (takes a b (gave p r.effect a b (s.links a b))))))
+    c
 
 first_of : (holds : Bool) (one two : NetworkFault) (link : List Message) (m : Message) → Rattle.network.specs.Links.check holds one (ok_or (slice_get link 0) two) ≡ Ok m → link ≡ m ∷ drop 1 link
 first_of holds one two [] m e = grind arith
@@ -269,9 +258,9 @@ module _ (depth : ℕ) (s : State) (long : s.ledgers ≤ length s.rows) where
       carries depth s call p input r _ (omega (arith, here.0, long)) here.0 cause here.1 first still (ok_answered Done (perform_answer depth s p r.effect))
   carry call p q input (Err refusal) rule cause first still = refused refl refl
 
-  -- a plan that is carried out is the call as it is defined
-  as_defined : {call : Call} {plan answer : Result Unit FloorFault} {t u : State} → plan ≡ answer → t ≡ u → Outcome call s t (is_ok (answered {A = Answer} Done plan)) → Outcome call s u (is_ok (answered {A = Answer} Done answer))
-  as_defined {call} {plan} {answer} {t} {u} e f it = subst (λ v. Outcome call s v (is_ok (answered {A = Answer} Done answer))) f (subst (λ r. Outcome call s t (is_ok (answered {A = Answer} Done r))) e it)
+  -- what a call comes to, where it was answered so
+  abbrev Came : Call → Result Unit FloorFault → State → Type 0
+  Came call answer after = Outcome call s after (is_ok (answered {A = Answer} Done answer))
 
   pub begin_rule : (r : Response) → begin_of s ≡ Ok r → (0 < s.ledgers) × Rule (member_of s 0) (row_of s 0) (s.entries 0) begins r
   begin_rule r e = grind (arith, nat_tests)
@@ -366,11 +355,11 @@ module _ (depth : ℕ) (s : State) (long : s.ledgers ≤ length s.rows) where
     deliver false e = refused refl refl
 
   pub outcome : (call : Call) → Outcome call s (call_after depth s call) (taken depth s call)
-  outcome Begin = as_defined (begin_same depth s) (begin_leaves depth s) (carry Begin 0 255 begins (begin_of s) begin_rule (refl, refl) tt (λ a b link. refl))
-  outcome (Step p) = as_defined (step_same depth s p) (step_leaves depth s p) (carry (Step p) p 255 steps (step_of s p) (step_rule p) (refl, refl) tt (λ a b link. refl))
+  outcome Begin = subst₂ (Came Begin) (begin_same depth s) (begin_leaves depth s) (carry Begin 0 255 begins (begin_of s) begin_rule (refl, refl) tt (λ a b link. refl))
+  outcome (Step p) = subst₂ (Came (Step p)) (step_same depth s p) (step_leaves depth s p) (carry (Step p) p 255 steps (step_of s p) (step_rule p) (refl, refl) tt (λ a b link. refl))
   outcome (Deliver q p) = deliver q p _ refl
   outcome (Expire p q) = carry (Expire p q) p q (expires q) (expiry_of s p q) (expiry_rule p q) (refl, refl) tt (λ a b link. refl)
-  outcome (Stop p) = as_defined (stop_same depth s p) (stop_leaves depth s p) (carry (Stop p) p 255 stops (stop_of s p) (stop_rule p) (refl, refl) tt (λ a b link. refl))
+  outcome (Stop p) = subst₂ (Came (Stop p)) (stop_same depth s p) (stop_leaves depth s p) (carry (Stop p) p 255 stops (stop_of s p) (stop_rule p) (refl, refl) tt (λ a b link. refl))
   outcome (Restart p) = restart p _ refl
 
 -- the table and the votes stay

@@ -1,5 +1,6 @@
 -- Every call is lawful, whatever it is and whatever the state.
 use Rattle.std.proofs.Common.{◌≡◌, ℕ, Bool, true, false, cond, not, ◌&&◌, eqb, ◌≢◌, List, [], ◌∷◌, ◌++◌, drop, is_some, IfSome, is_ok, is_err, IfOk, Some, None, Ok, Err, Option, Result, sym, refl, ap, ◌∙◌, subst, append-nil, arith}
+use Rattle.std.proofs.Math.Path.{subst₂}
 use Rattle.std.proofs.lemmas.Bool.{and_parts}
 use Rattle.std.proofs.lemmas.Bool.Decides.{nat_tests}
 use Rattle.std.specs.Option.{ok_or}
@@ -178,14 +179,14 @@ module _ (depth : ℕ) (s : State) where
   told : {p : ℕ} {named : ℕ → ℕ → Bool} {t : State} {one other : Bool} → one ≡ other → Lawful p named one s t → Lawful p named other s t
   told {p} {named} {t} e law = subst (λ refused. Lawful p named refused s t) e law
 
-  -- a plan that is carried out is the call as it is defined
-  as_defined : {p : ℕ} {named : ℕ → ℕ → Bool} {plan answer : Result Unit FloorFault} {t u : State} → plan ≡ answer → t ≡ u → Lawful p named (is_err plan) s t → Lawful p named (is_err answer) s u
-  as_defined {p} {named} {plan} {answer} {t} {u} e f law = subst (λ v. Lawful p named (is_err answer) s v) f (subst (λ r. Lawful p named (is_err r) s t) e law)
+  -- what p did, where the call answered that
+  abbrev Did : ℕ → (ℕ → ℕ → Bool) → Result Unit FloorFault → State → Type 0
+  Did p named answer after = Lawful p named (is_err answer) s after
 
   pub lawful : (call : Call) → LawfulCall call (is_err (call_answer depth s call)) s (call_after depth s call)
-  lawful Begin = told (answered_err Done (begin_answer depth s)) (as_defined (begin_same depth s) (begin_leaves depth s) (carried 0 255 _ (begin_of s) (begin_of_steady s)))
-  lawful (Step p) = told (answered_err Done (step_answer depth s p)) (as_defined (step_same depth s p) (step_leaves depth s p) (carried p 255 _ (step_of s p) (step_of_steady s p)))
+  lawful Begin = told (answered_err Done (begin_answer depth s)) (subst₂ (Did 0 _) (begin_same depth s) (begin_leaves depth s) (carried 0 255 _ (begin_of s) (begin_of_steady s)))
+  lawful (Step p) = told (answered_err Done (step_answer depth s p)) (subst₂ (Did p _) (step_same depth s p) (step_leaves depth s p) (carried p 255 _ (step_of s p) (step_of_steady s p)))
   lawful (Deliver q p) = told (met_err (deliver_answer depth s q p)) (delivered q p)
   lawful (Expire p q) = told (answered_err Done (expire_answer depth s p q)) (carried p q _ (expiry_of s p q) (expiry_of_steady s p q))
-  lawful (Stop p) = told (answered_err Done (stop_answer s p)) (as_defined (stop_same depth s p) (stop_leaves depth s p) (carried p 255 _ (stop_of s p) (stop_of_steady s p)))
+  lawful (Stop p) = told (answered_err Done (stop_answer s p)) (subst₂ (Did p _) (stop_same depth s p) (stop_leaves depth s p) (carried p 255 _ (stop_of s p) (stop_of_steady s p)))
   lawful (Restart p) = told (recovered_err (restart_answer depth s p)) (restarted p _ (restart_of s p))

@@ -5,6 +5,7 @@ pub mod Opening
 pub mod Perform
 pub mod Plans
 pub mod Recovery
+pub mod RefusalFacts
 pub mod Refusals
 pub mod Rest
 pub mod State

@@ -2,7 +2,7 @@
 use crate::delivery::Delivery;
 use crate::recovery::Recovery;
 
-#[derive(Clone, Copy)]
+#[derive(Clone, Copy, Debug, PartialEq, Eq)]
 pub enum Call {
     Begin,
     Step(u8),
@@ -13,7 +13,7 @@ pub enum Call {
     Restart(u8),
 }
 
-#[derive(Clone, Copy)]
+#[derive(Clone, Copy, Debug, PartialEq, Eq)]
 pub enum Answer {
     Done,
     // What became of the message.

@@ -1,5 +1,5 @@
 // What became of a message that was taken from its link.
-#[derive(Clone, Copy)]
+#[derive(Clone, Copy, Debug, PartialEq, Eq)]
 pub enum Delivery {
     // The ledger got it.
     Delivered,

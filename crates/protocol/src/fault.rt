@@ -1,5 +1,6 @@
 // Why a call on a floor was refused: by the floor itself, by its network or by its journals.
 ghost use Rattle.std.specs.Prelude.{◌≡◌};
+ghost use Rattle.protocol.specs.RefusalFacts.{faults_counted};
 ghost use Rattle.protocol.specs.Refusals.{fault_layer, fault_number, number_of};
 ghost use Rattle.protocol.specs.declared.fault.FloorFault.TheVariants.{Link, Journal};
 
@@ -7,40 +8,29 @@ use journals::fault::JournalsFault;
 use ledgers::fault::Fault;
 use network::fault::NetworkFault;
 
-#[derive(Clone, Copy, Debug)]
+#[derive(Clone, Copy, Debug, PartialEq, Eq)]
 pub enum FloorRefusal {
-    MisreadOpening,
-    UnknownLedger,
-    NotRunning,
-    NotStopped,
-    Begun,
-    Idle,
-    NotWaiting,
-    Noticed,
-    NotFresh,
-    ShortList,
+    MisreadOpening = 1,
+    UnknownLedger = 2,
+    NotRunning = 3,
+    NotStopped = 4,
+    Begun = 5,
+    Idle = 6,
+    NotWaiting = 9,
+    Noticed = 10,
+    NotFresh = 11,
+    ShortList = 14,
 }
 
 impl FloorRefusal {
     pub fn number(self) -> u8
         ensures { result ≡ number_of self }
     {
-        match self {
-            FloorRefusal::MisreadOpening => 1,
-            FloorRefusal::UnknownLedger => 2,
-            FloorRefusal::NotRunning => 3,
-            FloorRefusal::NotStopped => 4,
-            FloorRefusal::Begun => 5,
-            FloorRefusal::Idle => 6,
-            FloorRefusal::NotWaiting => 9,
-            FloorRefusal::Noticed => 10,
-            FloorRefusal::NotFresh => 11,
-            FloorRefusal::ShortList => 14,
-        }
+        self as u8
     }
 }
 
-#[derive(Clone, Copy, Debug)]
+#[derive(Clone, Copy, Debug, PartialEq, Eq)]
 pub enum FloorFault {
     // The floor's own refusal, with the ledgers as called.
     Refused(FloorRefusal, u8, u8),
@@ -48,9 +38,13 @@ pub enum FloorFault {
     Journal(JournalsFault),
 }
 
-impl FloorFault {
-    pub fn number(self) -> u8
-        ensures { result ≡ fault_number self }
+impl Fault for FloorFault {
+    ghost numbered = { fault_number };
+
+    ghost letter = { fault_layer };
+
+    fn number(&self) -> u8
+        ensures { result ≡ fault_number self.now }
     {
         match self {
             FloorFault::Refused(refusal, _, _) => refusal.number(),
@@ -59,9 +53,8 @@ impl FloorFault {
         }
     }
 
-    // The letter of the layer where the fault arose.
-    pub fn layer(self) -> char
-        ensures { result ≡ fault_layer self }
+    fn layer(&self) -> char
+        ensures { result ≡ fault_layer self.now }
     {
         match self {
             FloorFault::Refused(_, _, _) => 'F',
@@ -69,6 +62,8 @@ impl FloorFault {
             FloorFault::Journal(journal) => journal.layer(),
         }
     }
+
+    ghost counted = { faults_counted };
 }
 
 impl From<NetworkFault> for FloorFault {

@@ -2,26 +2,23 @@
 ghost use Rattle.std.specs.Prelude.{◌≡◌};
 ghost use Rattle.protocol.specs.Worklist.{reason_number};
 
-#[derive(Clone, Copy)]
+#[derive(Clone, Copy, Debug, PartialEq, Eq)]
 pub enum Reason {
     // The ledger restarted, and its journal does not tell what the others did.
-    Uncertain,
+    Uncertain = 1,
     // The ledger runs, and another decided the contrary.
-    Disputed,
+    Disputed = 2,
 }
 
 impl Reason {
     pub fn number(self) -> u8
         ensures { result ≡ reason_number self }
     {
-        match self {
-            Reason::Uncertain => 1,
-            Reason::Disputed => 2,
-        }
+        self as u8
     }
 }
 
-#[derive(Clone, Copy)]
+#[derive(Clone, Copy, Debug, PartialEq, Eq)]
 pub struct Note {
     pub ledger: u8,
     pub reason: Reason,

@@ -1,7 +1,7 @@
 // What a restarted ledger tells of the batch from its journal alone.
 use rules::effect::Effect;
 
-#[derive(Clone, Copy)]
+#[derive(Clone, Copy, Debug, PartialEq, Eq)]
 pub enum Recovery {
     Posted,
     Dropped,
@@ -10,7 +10,7 @@ pub enum Recovery {
 }
 
 // What a restart finds, and the entry that closes the batch where it may.
-#[derive(Clone, Copy)]
+#[derive(Clone, Copy, Debug, PartialEq, Eq)]
 pub struct Finding {
     pub recovery: Recovery,
     pub effect: Effect,

@@ -1,5 +1,5 @@
 // How a ledger stands.
-#[derive(Clone, Copy)]
+#[derive(Clone, Copy, Debug, PartialEq, Eq)]
 pub enum Standing {
     Running,
     Stopped,
