@@ -1,6 +1,5 @@
 pub mod FirstFacts
 pub mod LineFacts
-pub mod NoteFacts
 pub mod PlayFacts
 pub mod Promised
 pub mod ReadFacts

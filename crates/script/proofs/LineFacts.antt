@@ -1,61 +1,63 @@
 -- Where the first line of a list of bytes ends.
-use Rattle.std.proofs.Common.{◌≡◌, ℕ, zero, suc, ◌+◌, ◌-◌, ◌<◌, ◌≤◌, Bool, true, false, eqb, ltb, ◌≢◌, List, [], ◌∷◌, length, get_or, take, drop, sym, refl, ap, ◌∙◌, arith, length-drop}
-use Rattle.std.proofs.lemmas.List.{drop-drop, get_or-drop, length-take-le}
-use Rattle.std.proofs.lemmas.Bool.{eq-eqb, ltb-true, ne_eqb}
+use Rattle.std.proofs.Common.{◌≡◌, ℕ, suc, ◌+◌, ◌-◌, ◌<◌, ◌≤◌, Bool, true, false, eqb, ltb, ◌==◌, List, [], ◌∷◌, length, take, drop, Some, None, position, sym, refl, ap, ◌∙◌, arith, length-drop}
+use Rattle.std.specs.List.{position_or_len}
+use Rattle.std.proofs.lemmas.List.{drop-drop, length-take-le, take_rest}
+use Rattle.std.proofs.lemmas.Bool.{ltb-true}
 use Rattle.std.proofs.lemmas.Bool.Decides.{nat_tests}
 use Rattle.script.specs.Lines.{LineAt, lines_of, with_line}
 
--- no byte 10 among the first n
-abbrev pub Plain : List ℕ → ℕ → Type 0
-Plain bs n = (k : ℕ) → k < n → get_or bs k 0 ≢ 10
+-- as many bytes as stand before the first byte 10
+abbrev pub first_len : List ℕ → ℕ
+first_len = position_or_len (λ b. b == 10)
 
-plain_rest : (b : ℕ) (bs : List ℕ) (n : ℕ) → Plain (b ∷ bs) (suc n) → Plain bs n
-plain_rest b bs n plain k below = plain (suc k) (omega arith)
+first_line : (bs : List ℕ) → first_len bs < length bs → lines_of bs ≡ with_line (take (first_len bs) bs) (lines_of (drop (first_len bs + 1) bs))
+first_line [] within = absurd (omega arith)
+first_line (b ∷ bs) within = by_test (eqb b 10) refl (first_line bs)
+  where
+    by_test : (ends : Bool) → eqb b 10 ≡ ends → (first_len bs < length bs → lines_of bs ≡ with_line (take (first_len bs) bs) (lines_of (drop (first_len bs + 1) bs))) → lines_of (b ∷ bs) ≡ with_line (take (first_len (b ∷ bs)) (b ∷ bs)) (lines_of (drop (first_len (b ∷ bs) + 1) (b ∷ bs)))
+    by_test true is further = rw is
+    by_test false is further =
+        let more = rw is at within in
+        let rest = further (omega arith) in
+        let n : 1 + first_len bs ≡ suc (first_len bs) = omega arith in
+        let m : suc (first_len bs) + 1 ≡ suc (first_len bs + 1) = omega arith in
+        rw (is, n, m, rest)
 
-pub first_line : (bs : List ℕ) (n : ℕ) → Plain bs n → n < length bs → get_or bs n 0 ≡ 10 → lines_of bs ≡ with_line (take n bs) (lines_of (drop (suc n) bs))
-first_line [] n plain within here = absurd (omega arith)
-first_line (b ∷ bs) zero plain within here = rw (eq-eqb b 10 here)
-first_line (b ∷ bs) (suc n) plain within here =
-    let rest = first_line bs n (plain_rest b bs n plain) (omega arith) here in
-    let other : eqb b 10 ≡ false = ne_eqb b 10 (plain 0 (omega arith)) in
-    rw (other, rest)
+no_line : (bs : List ℕ) → length bs ≤ first_len bs → (lines_of bs).whole ≡ []
+no_line [] past = refl
+no_line (b ∷ bs) past = by_test (eqb b 10) refl (no_line bs)
+  where
+    by_test : (ends : Bool) → eqb b 10 ≡ ends → (length bs ≤ first_len bs → (lines_of bs).whole ≡ []) → (lines_of (b ∷ bs)).whole ≡ []
+    by_test true is further = let short = rw is at past in absurd (omega arith)
+    by_test false is further = let more = rw is at past in let rest = further (omega arith) in rw (is, rest)
 
-pub no_line : (bs : List ℕ) → Plain bs (length bs) → (lines_of bs).whole ≡ []
-no_line [] plain = refl
-no_line (b ∷ bs) plain =
-    let rest = no_line bs (plain_rest b bs (length bs) plain) in
-    let other : eqb b 10 ≡ false = ne_eqb b 10 (plain 0 (omega arith)) in
-    rw (other, rest)
+-- what a search for a byte 10 from a start on tells
+module _ (script : List ℕ) (start : ℕ) (rest : List ℕ) (from : rest ≡ take (length script - start) (drop start script)) where
+  is_rest : rest ≡ drop start script
+  is_rest = from ∙ take_rest script start
 
-module _ (script : List ℕ) (start end : ℕ) (order : start ≤ end) (plain : Plain (drop start script) (end - start)) where
-  at_end : get_or (drop start script) (end - start) 0 ≡ get_or script end 0
-  at_end = let e : start + (end - start) ≡ end = omega arith in get_or-drop start script (end - start) 0 ∙ ap (λ i. get_or script i 0) e
-
-  -- one byte further
-  pub plain_more : get_or script end 0 ≢ 10 → Plain (drop start script) (end + 1 - start)
-  plain_more here k below same = by_test (ltb k (end - start)) refl
+  pub no_line_from : position (λ b. b == 10) rest ≡ None → (lines_of (drop start script)).whole ≡ []
+  no_line_from none = ap (λ bs. (lines_of bs).whole) (sym is_rest) ∙ no_line rest (by_test (ltb (first_len rest) (length rest)) refl)
     where
-      by_test : (earlier : Bool) → ltb k (end - start) ≡ earlier → ⊥
-      by_test true e = plain k (ltb-true k (end - start) e) same
-      by_test false e =
-          let last : k ≡ end - start = grind (arith, nat_tests) in
-          here (sym at_end ∙ ap (λ i. get_or (drop start script) i 0) (sym last) ∙ same)
+      by_test : (inside : Bool) → ltb (first_len rest) (length rest) ≡ inside → length rest ≤ first_len rest
+      by_test true is = let found = rw is at none in absurd (cc)
+      by_test false is = grind (arith, nat_tests)
 
-  -- the line ends here
-  pub found_line : end < length script → get_or script end 0 ≡ 10 → LineAt script start (take (end - start) (drop start script)) (end + 1)
-  found_line within here =
-      let bs = drop start script in
-      let n = end - start in
-      let long : length bs ≡ length script - start = length-drop start script in
-      let next : start + suc n ≡ end + 1 = omega arith in
-      let size : length (take n bs) ≡ n = length-take-le n bs (omega arith) in
-      record {
-        first = first_line bs n plain (omega arith) (at_end ∙ here) ∙ ap (λ rest. with_line (take n bs) (lines_of rest)) (drop-drop (suc n) start script ∙ ap (λ i. drop i script) next);
-        behind = omega arith;
-        within = omega arith;
-      }
-
--- a start past the end, or nothing but plain bytes
-pub no_line_from : (script : List ℕ) (start end : ℕ) → length script ≤ end → Plain (drop start script) (end - start) → (lines_of (drop start script)).whole ≡ []
-no_line_from script start end past plain =
-    no_line (drop start script) (λ k below. plain k (let long : length (drop start script) ≡ length script - start = length-drop start script in omega arith))
+  pub line_from : (n : ℕ) → start ≤ length script → position (λ b. b == 10) rest ≡ Some n → LineAt script start (take n rest) (start + n + 1)
+  line_from n within found = by_test (ltb (first_len rest) (length rest)) refl
+    where
+      by_test : (inside : Bool) → ltb (first_len rest) (length rest) ≡ inside → LineAt script start (take n rest) (start + n + 1)
+      by_test true is =
+          let some = rw is at found in
+          let same : first_len rest ≡ n = cc in
+          let short = ltb-true (first_len rest) (length rest) is in
+          let long = ap length is_rest ∙ length-drop start script in
+          let size : length (take n rest) ≡ n = length-take-le n rest (omega arith) in
+          let behind : start + n + 1 ≡ start + (n + 1) = omega arith in
+          let it = first_line rest short in
+          record {
+            first = ap lines_of (sym is_rest) ∙ rw same at it ∙ ap (λ bs. with_line (take n rest) (lines_of bs)) (ap (drop (n + 1)) is_rest ∙ drop-drop (n + 1) start script ∙ ap (λ i. drop i script) (sym behind));
+            behind = omega arith;
+            within = omega arith;
+          }
+      by_test false is = let none = rw is at found in absurd (cc)

@@ -17,6 +17,3 @@ texts_none s text = sym (append-nil text) ∙ ap (λ more. text ++ more) (sym (n
 pub texts_more : (s : State) (p : ℕ) (before so_far text : List ℕ) → so_far ≡ before ++ ledger_texts s p → text ≡ so_far ++ ledger_text s p → text ≡ before ++ ledger_texts s (p + 1)
 texts_more s p before so_far text e f =
     f ∙ ap (λ front. front ++ ledger_text s p) e ∙ append_assoc before (ledger_texts s p) (ledger_text s p) ∙ ap (λ more. before ++ more) (sym (ap (ledger_texts s) (add-one p) ∙ texts_suc s p))
-
-pub texts_end : (before so_far text lines last piece : List ℕ) → so_far ≡ before ++ lines → text ≡ so_far ++ piece → piece ≡ last → text ≡ before ++ (lines ++ last)
-texts_end before so_far text lines last piece e f g = rw (f, e, g) (simp append_assoc)

@@ -1,5 +1,6 @@
 -- Which lines read as which call, and how each call is written.
 use Rattle.std.specs.Prelude.{ℕ, ◌+◌, ◌-◌, ◌≤◌, Bool, cond, ◌&&◌, List, [], ◌∷◌, Some, None, codes, Option, ◌==◌, nat_le}
+use Rattle.std.specs.List.{flat_map, list_all}
 use Rattle.std.specs.Option.{option_map}
 use Rattle.protocol.specs.declared.call.Call.{Call}
 use Rattle.protocol.specs.declared.call.Call.TheVariants.{Begin, Step, Deliver, Expire, Stop, Restart}
@@ -50,6 +51,18 @@ read_call (letter ∷ fields) = chosen letter fields
 -- a field as it is written
 abbrev pub field : ℕ → List ℕ → List ℕ
 field p rest = 32 ∷ ((48 + p) ∷ rest)
+
+-- some fields, one behind the other
+abbrev pub fields_text : List ℕ → List ℕ
+fields_text = flat_map (λ p. field p [])
+
+-- each of them has a digit
+abbrev pub have_digits : List ℕ → Bool
+have_digits = list_all (λ p. nat_le p 9)
+
+-- a letter and fields behind it
+abbrev pub with_fields : ℕ → List ℕ → Option (List ℕ)
+with_fields letter ps = cond (have_digits ps) (Some (letter ∷ fields_text ps)) None
 
 abbrev pub call_line : Call → List ℕ
 call_line Begin = codes "B"

@@ -87,6 +87,11 @@ play_start links entries (Err fault) = Err fault
 abbrev pub play_of : Links → Entries → List ℕ → Result Play ScriptFault
 play_of links entries script = play_start links entries (start_of script)
 
+-- whether the first line opens the floor, and why not
+abbrev pub opening_of : Result Play ScriptFault → Result Unit ScriptFault
+opening_of (Ok play) = Ok tt
+opening_of (Err fault) = Err fault
+
 -- the floor at the end; a closed one where nothing was opened
 abbrev pub played_after : ℕ → Links → Entries → Result Play ScriptFault → State
 played_after depth links entries (Ok play) = after_all depth play.floor (calls_of play.lines.whole)

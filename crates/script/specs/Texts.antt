@@ -14,6 +14,10 @@ abbrev pub taken_text : ℕ → List ℕ
 taken_text line = decimal line ++ (32 ∷ (48 ∷ (10 ∷ [])))
 
 -- the line's number, the refusal's number and its layer's letter
+abbrev pub fault_words : ℕ → ScriptRefusal → List ℕ
+fault_words line refusal = decimal line ++ (32 ∷ (decimal (number_of refusal) ++ (32 ∷ (layer_of refusal ∷ []))))
+
+-- as a line
 abbrev pub fault_text : ℕ → ScriptRefusal → List ℕ
 fault_text line refusal = decimal line ++ (32 ∷ (decimal (number_of refusal) ++ (32 ∷ (layer_of refusal ∷ (10 ∷ [])))))
 

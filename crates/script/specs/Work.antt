@@ -1,5 +1,6 @@
 -- What a person is told of a script. Every line ends in byte 10.
 use Rattle.std.specs.Prelude.{ℕ, ◌+◌, List, [], ◌∷◌, ◌++◌, length, Ok, Err, codes, decimal, Result}
+use Rattle.std.specs.List.{flat_map}
 use Rattle.journals.specs.Calls.{Entries}
 use Rattle.network.specs.Links.{Links}
 use Rattle.protocol.specs.State.{State}
@@ -22,8 +23,7 @@ note_text note =
     codes "W " ++ (decimal note.ledger ++ (32 ∷ ((48 + reason_number note.reason) ∷ (32 ∷ (reason_text note.reason ++ (10 ∷ []))))))
 
 abbrev pub notes_text : List Note → List ℕ
-notes_text [] = []
-notes_text (note ∷ notes) = note_text note ++ notes_text notes
+notes_text = flat_map note_text
 
 -- `N` and the number of notes
 abbrev pub count_text : ℕ → List ℕ

@@ -14,7 +14,7 @@ use journals::set::Journals;
 use network::link::Network;
 use protocol::call::Answer;
 use protocol::fault::FloorFault;
-use std::alloc::{AllocError, Global};
+use std::alloc::AllocError;
 
 // The floor's fault becomes the script's, whole.
 pub(crate) fn raised(answer: Result<Answer, FloorFault>) -> Result<Answer, ScriptRefusal>
@@ -25,7 +25,6 @@ pub(crate) fn raised(answer: Result<Answer, FloorFault>) -> Result<Answer, Scrip
 
 // Makes the calls from a start on, the first of them line 2, and adds a line for each.
 pub(crate) fn play_calls<N: Network, J: Journals>(
-    heap: Global,
     text: &mut String,
     floor: &mut Floor<N, J>,
     script: &[u8],
@@ -39,16 +38,16 @@ pub(crate) fn play_calls<N: Network, J: Journals>(
     let mut number = 2;
     while let Some(line) = next_line(script, start) {
         let Some(call) = read_call(line.text) else {
-            push_fault(heap, text, bad_line(number))?;
+            push_fault(text, bad_line(number))?;
             return Ok(());
         };
         let answer = raised(floor.call(call));
-        push_answer(heap, text, number, answer)?;
+        push_answer(text, number, answer)?;
         start = line.next;
         number += 1;
     }
     if start < script.len() {
-        push_fault(heap, text, bad_line(number))?;
+        push_fault(text, bad_line(number))?;
     }
     Ok(())
 }

@@ -1,11 +1,15 @@
 // Why a line of a script came to nothing: it is no line, or the floor refused its call.
-ghost use Rattle.std.specs.Prelude.{◌≡◌};
+ghost use Rattle.std.specs.Prelude.{◌≡◌, Some};
+ghost use Rattle.script.specs.RefusalFacts.{refusals_counted};
 ghost use Rattle.script.specs.Refusals.{at_line, layer_of, number_of};
+ghost use Rattle.script.specs.Texts.{fault_words};
 ghost use Rattle.script.specs.declared.fault.ScriptRefusal.TheVariants.{BadLine, Floor};
 
+use ledgers::fault::Fault;
 use protocol::fault::FloorFault;
+use std::fmt;
 
-#[derive(Clone, Copy, Debug)]
+#[derive(Clone, Copy, Debug, PartialEq, Eq)]
 pub enum ScriptRefusal {
     BadLine,
     // The floor's fault, whole.
@@ -21,30 +25,43 @@ impl From<FloorFault> for ScriptRefusal {
 }
 
 // A refusal, and the line where it arose.
-#[derive(Clone, Copy, Debug)]
+#[derive(Clone, Copy, Debug, PartialEq, Eq)]
 pub struct ScriptFault {
     pub line: usize,
     pub refusal: ScriptRefusal,
 }
 
-impl ScriptFault {
-    pub fn number(self) -> u8
-        ensures { result ≡ number_of self.refusal }
-    {
+impl Fault for ScriptFault {
+    ghost numbered = { λ fault. number_of fault.refusal };
+
+    ghost letter = { λ fault. layer_of fault.refusal };
+
+    fn number(&self) -> u8 {
         match self.refusal {
             ScriptRefusal::BadLine => 16,
             ScriptRefusal::Floor(fault) => fault.number(),
         }
     }
 
-    // The letter of the layer where the fault arose.
-    pub fn layer(self) -> char
-        ensures { result ≡ layer_of self.refusal }
-    {
+    fn layer(&self) -> char {
         match self.refusal {
             ScriptRefusal::BadLine => 'S',
             ScriptRefusal::Floor(fault) => fault.layer(),
         }
+    }
+
+    ghost counted = { λ fault. refusals_counted fault.refusal };
+}
+
+// The line, the refusal's number and its layer's letter.
+impl fmt::Display for ScriptFault {
+    ghost output = { λ fault. Some (fault_words fault.line fault.refusal) };
+
+    fn fmt<W: fmt::Write>(&self, f: &mut fmt::Formatter<W>) -> fmt::Result {
+        let line = self.line;
+        let number = self.number();
+        let layer = self.layer();
+        write!(f, "{line} {number} {layer}")
     }
 }
 

@@ -1,18 +1,8 @@
 // Which call a line is.
 ghost use Rattle.std.specs.Prelude.{◌≡◌, IfSome};
-ghost use Rattle.script.specs.Reading.{call_line, no_field, one_field, read_call, two_fields};
+ghost use Rattle.script.specs.Reading.{call_line, one_field, read_call, two_fields};
 
 use protocol::call::Call;
-
-// Nothing follows the letter.
-fn no_field(fields: &[u8]) -> Option<Call>
-    ensures { result ≡ no_field fields.now }
-{
-    match fields {
-        [] => Some(Call::Begin),
-        _ => None,
-    }
-}
 
 // One space and one digit.
 fn one_field(fields: &[u8]) -> Option<u8>
@@ -50,7 +40,7 @@ fn chosen_call(line: &[u8]) -> Option<Call>
         return None;
     };
     match *letter as char {
-        'B' => no_field(fields),
+        'B' if fields.is_empty() => Some(Call::Begin),
         'S' => Some(Call::Step(one_field(fields)?)),
         'D' => {
             let (sender, receiver) = two_fields(fields)?;

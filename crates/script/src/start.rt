@@ -18,7 +18,7 @@ use network::link::Network;
 pub const LIMIT: usize = 65_536;
 
 // What the first line tells, and where the second one starts.
-#[derive(Clone, Copy)]
+#[derive(Drop)]
 pub struct StartLine {
     pub first: FirstLine,
     pub next: usize,
@@ -26,7 +26,7 @@ pub struct StartLine {
 
 fn start_line(script: &[u8]) -> Result<StartLine, ScriptFault>
     ensures start { started script.now result ≡ start_of script.now }
-    ensures short { IfOk result (λ start. (length script.now ≤ 65536) × (start.first.ledgers ≤ 9)) }
+    ensures short { IfOk result (λ start. length script.now ≤ 65536) }
 {
     if script.len() > LIMIT {
         return Err(bad_line(0));
@@ -60,17 +60,11 @@ fn closed_floor<N: Network, J: Journals>(network: N, journals: J) -> Floor<N, J>
 
 // Opens the floor of a first line.
 fn open_floor<N: Network, J: Journals>(network: N, journals: J, first: FirstLine) -> Opening<N, J>
-    requires { first.ledgers ≤ 9 }
     ensures answer { result.answer ≡ open_answer (N.links network) (J.entries journals) (first_of first).ledgers (first_of first).votes }
     ensures after { state result.floor ≡ open_after (N.links network) (J.entries journals) (first_of first).ledgers (first_of first).votes }
 {
-    let votes = first.votes;
-    Floor::open(
-        network,
-        journals,
-        first.ledgers,
-        &votes[0..first.ledgers as usize],
-    )
+    let votes = first.votes.as_slice();
+    Floor::open(network, journals, votes.len() as u8, votes)
 }
 
 // Opens the floor that the first line of a script tells of.
@@ -84,14 +78,11 @@ pub(crate) fn open_script<N: Network, J: Journals>(
     match start_line(script) {
         Ok(start) => {
             let Opening { floor, answer } = open_floor(network, journals, start.first);
-            match answer {
-                Ok(()) => Started {
-                    floor,
-                    answer: Ok(start.next),
-                },
-                Err(fault) => Started {
-                    floor,
-                    answer: Err(ScriptFault {
+            Started {
+                floor,
+                answer: match answer {
+                    Ok(()) => Ok(start.next),
+                    Err(fault) => Err(ScriptFault {
                         line: 1,
                         refusal: fault.into(),
                     }),

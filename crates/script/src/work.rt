@@ -1,7 +1,7 @@
 // What a person must settle after a script.
 ghost use Rattle.std.specs.Prelude.{◌≡◌, ◌++◌, length, IfOk, string_bytes, OnOk};
 ghost use Rattle.floor.specs.State.{state};
-ghost use Rattle.script.specs.Work.{count_text, note_text, notes_text, settle_text, work_text};
+ghost use Rattle.script.specs.Work.{note_text, notes_text, reason_text, settle_text, work_text};
 
 use crate::rehearsal::{Rehearsal, rehearse};
 use floor::floor::Floor;
@@ -10,40 +10,40 @@ use network::link::Network;
 use protocol::note::{Note, Reason};
 use std::alloc::{AllocError, Global};
 
-// The line of a note: what it is, and what the person should settle.
-fn note_line(heap: Global, note: Note) -> Result<String, AllocError>
-    ensures { IfOk result (λ text. string_bytes text ≡ note_text note) }
+// What the person should settle.
+fn reason_words(reason: Reason) -> &'static str
+    ensures { result.now ≡ reason_text reason }
 {
-    let ledger = note.ledger;
-    match note.reason {
-        Reason::Uncertain => format!(in heap;
-            "W {ledger} 1 uncertain after a restart: ask the other ledgers whether they posted or dropped, and settle this one alike\n"
-        ),
-        Reason::Disputed => format!(in heap;
-            "W {ledger} 2 dispute between decisions: find the ledgers that decided otherwise, and settle post or drop for all of them\n"
-        ),
+    match reason {
+        Reason::Uncertain => {
+            "uncertain after a restart: ask the other ledgers whether they posted or dropped, and settle this one alike"
+        }
+        Reason::Disputed => {
+            "dispute between decisions: find the ledgers that decided otherwise, and settle post or drop for all of them"
+        }
     }
 }
 
-fn push_notes(heap: Global, text: &mut String, notes: &[Note]) -> Result<(), AllocError>
+fn push_note(text: &mut String, note: Note) -> Result<(), AllocError>
+    ensures { OnOk result (string_bytes text.new ≡ string_bytes text.old ++ note_text note) }
+{
+    let ledger = note.ledger;
+    let number = note.reason.number();
+    let words = reason_words(note.reason);
+    writeln!(text, "W {ledger} {number} {words}")
+}
+
+fn push_notes(text: &mut String, notes: &[Note]) -> Result<(), AllocError>
     ensures { OnOk result (string_bytes text.new ≡ string_bytes text.old ++ notes_text notes.now) }
 {
     for note in notes {
-        let line = note_line(heap, *note)?;
-        text.push_str(line.as_str())?;
+        push_note(text, *note)?;
     }
     Ok(())
 }
 
-fn count_line(heap: Global, count: usize) -> Result<String, AllocError>
-    ensures { IfOk result (λ text. string_bytes text ≡ count_text count) }
-{
-    format!(in heap; "N {count}\n")
-}
-
 // Adds the floor's notes, and how many they are.
 fn push_work<N: Network, J: Journals>(
-    heap: Global,
     text: &mut String,
     floor: &Floor<N, J>,
 ) -> Result<(), AllocError>
@@ -56,10 +56,8 @@ fn push_work<N: Network, J: Journals>(
     let Ok(count) = floor.worklist(&mut notes) else {
         unreachable!()
     };
-    push_notes(heap, text, &notes[0..count])?;
-    let last = count_line(heap, count)?;
-    text.push_str(last.as_str())?;
-    Ok(())
+    push_notes(text, &notes[0..count])?;
+    writeln!(text, "N {count}")
 }
 
 // What a person must settle after a script over this network and these journals.
@@ -74,12 +72,12 @@ pub fn list_work<N: Network + Drop, J: Journals + Drop>(
     let Rehearsal {
         floor,
         text,
-        opened,
+        opening,
     } = rehearse(heap, network, journals, script)?;
-    if !opened {
+    if opening.is_err() {
         return Ok(text);
     }
     let mut work = String::new(heap);
-    push_work(heap, &mut work, &floor)?;
+    push_work(&mut work, &floor)?;
     Ok(work)
 }

@@ -1,14 +1,12 @@
-use Rattle.std.proofs.Common.{refl}
-use Rattle.script.proofs.LineFacts.{found_line, no_line_from, plain_more}
+use Rattle.std.proofs.Common.{◌∙◌, refl, sym, rules}
+use Rattle.script.proofs.LineFacts.{line_from, no_line_from}
 use Rattle.script.proofs.line.next_line.Goals as goal
 
-pub loop-end-preserved : goal.loop-end-preserved
-loop-end-preserved c =
-    plain_more c.args.script.now c.args.start c.loop-end.end c.loop-end.auto.end c.loop-end.invariant c.if-script-end-eq10.false
-
-pub returns-then-script-end-eq10 : goal.returns-then-script-end-eq10
-returns-then-script-end-eq10 c =
-    (refl, found_line c.args.script.now c.args.start c.loop-end.end c.loop-end.auto.end c.loop-end.invariant c.loop-end-test.true c.if-script-end-eq10.true)
+pub returns-in_err-len : goal.returns-in_err-len
+returns-in_err-len c =
+    let none = no_line_from c.args.script.now c.args.start c.in_ok-rest.rest.now c.in_ok-rest.ensures.lookup.0.2 (sym c.line_len.ensures ∙ c.in_err-len.was) in
+    search rules
 
 pub returns : goal.returns
-returns c = no_line_from c.args.script.now c.args.start c.loop-end.end c.loop-end-test.false c.loop-end.invariant
+returns c =
+    (refl, line_from c.args.script.now c.args.start c.in_ok-rest.rest.now c.in_ok-rest.ensures.lookup.0.2 c.in_ok-len.len c.in_ok-rest.ensures.lookup.0.0 (sym c.line_len.ensures ∙ c.in_ok-len.was))

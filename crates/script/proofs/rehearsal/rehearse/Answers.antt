@@ -10,7 +10,7 @@ returns g c =
     record {
       text = c.rehearsed.ensures.text;
       floor = c.rehearsed.ensures.floor;
-      opened = c.rehearsed.ensures.opened;
+      opening = c.rehearsed.ensures.opening;
       promises =
           IfOk-weaker c.rehearsed.result _ _
           (λ it e. promised g.N.Network.DEPTH links entries g.met.N.Network.deep (g.met.N.Network.bounded c.args.network) (g.met.J.Journals.bounded c.args.journals) c.args.script.now (state it.floor) e)
