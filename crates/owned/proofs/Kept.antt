@@ -1,8 +1,10 @@
 -- What the search tells of the elements that pass its test, in their order.
-use Rattle.std.proofs.Common.{◌≡◌, ℕ, zero, suc, ◌+◌, ◌-◌, ◌<◌, ◌≤◌, Bool, true, false, cond, List, [], ◌∷◌, length, get_or, drop, Some, None, filter, Option, refl, ◌∙◌, add_assoc, add-one, arith}
+use Rattle.std.proofs.Common.{◌≡◌, ℕ, zero, suc, ◌+◌, ◌-◌, ◌<◌, ◌≤◌, Bool, true, false, cond, List, [], ◌∷◌, length, get_or, drop, Some, None, filter, position, Option, refl, ap, ◌∙◌, add_assoc, add-one, add-zero, arith}
 use Rattle.std.proofs.lemmas.List.{get_or-drop, drop-drop, length-drop}
-use Rattle.std.specs.List.{HoldsAt, AllWithin}
-use Rattle.owned.specs.Search.{first_from, next_of, First}
+use Rattle.std.proofs.lemmas.Iterator.Adapters.{position_from-zero}
+use Rattle.std.specs.Option.{option_map}
+use Rattle.std.specs.List.{HoldsAt, AllWithin, position_from}
+use Rattle.owned.specs.Search.{next_of, First}
 
 module _ {X : Type 0} (test : X → Bool) where
   -- k is where the search stopped, counted from the list's first
@@ -19,7 +21,7 @@ module _ {X : Type 0} (test : X → Bool) where
   every_cons x xs k fails rest (suc n) d low high = rest n d (omega arith) (omega arith)
 
   -- one element in front of those that the search has gone over
-  one_more : (x : X) (xs : List X) (i j : ℕ) (b : Bool) → test x ≡ b → cond b (Some i) (first_from (i + 1) test xs) ≡ Some j → (first_from (i + 1) test xs ≡ Some j → Stopped xs (i + 1) j) → Stopped (x ∷ xs) i j
+  one_more : (x : X) (xs : List X) (i j : ℕ) (b : Bool) → test x ≡ b → cond b (Some i) (position_from test (i + 1) xs) ≡ Some j → (position_from test (i + 1) xs ≡ Some j → Stopped xs (i + 1) j) → Stopped (x ∷ xs) i j
   one_more x xs i j true yes' e later = record {
     k = 0;
     at = let same : i ≡ j = cc in omega arith;
@@ -39,7 +41,7 @@ module _ {X : Type 0} (test : X → Bool) where
         splits = λ d. rw (fails, add-one) (rw add-one at (l.splits d));
       }
 
-  stopped : (xs : List X) (i j : ℕ) → first_from i test xs ≡ Some j → Stopped xs i j
+  stopped : (xs : List X) (i j : ℕ) → position_from test i xs ≡ Some j → Stopped xs i j
   stopped [] i j e = absurd (let z : ◌≡◌ {A = ℕ} 0 1 = cc in omega arith)
   stopped (x ∷ xs) i j e = one_more x xs i j (test x) refl e (stopped xs (i + 1) j)
 
@@ -48,11 +50,11 @@ module _ {X : Type 0} (test : X → Bool) where
     pub all_fail : AllWithin (λ x. test x ≡ false) xs 0 (length xs)
     pub none_kept : filter test xs ≡ []
 
-  ended : (xs : List X) (i : ℕ) → first_from i test xs ≡ None → Ended xs
+  ended : (xs : List X) (i : ℕ) → position_from test i xs ≡ None → Ended xs
   ended [] i e = record { all_fail = λ n d low high. absurd (omega arith); none_kept = refl }
   ended (x ∷ xs) i e = one_less (test x) refl e (ended xs (i + 1))
     where
-      one_less : (b : Bool) → test x ≡ b → cond b (Some i) (first_from (i + 1) test xs) ≡ None → (first_from (i + 1) test xs ≡ None → Ended xs) → Ended (x ∷ xs)
+      one_less : (b : Bool) → test x ≡ b → cond b (Some i) (position_from test (i + 1) xs) ≡ None → (position_from test (i + 1) xs ≡ None → Ended xs) → Ended (x ∷ xs)
       one_less true yes' found later = absurd (let z : ◌≡◌ {A = ℕ} 0 1 = cc in omega arith)
       one_less false fails rest later =
           let l = later rest in
@@ -95,3 +97,15 @@ module _ {X : Type 0} (test : X → Bool) where
   is_first xs i None e =
       λ n d low high. every_in_whole xs i (length (drop i xs)) (ended (drop i xs) i e).all_fail n d low (omega (arith, length-drop i xs))
   is_first xs i (Some j) e = let s = next_some xs i j e in (s.after, s.within, s.passes, s.earlier)
+
+  shifted : (i j : ℕ) (xs : List X) → option_map (λ n. i + n) (position_from test j xs) ≡ position_from test (i + j) xs
+  shifted i j [] = refl
+  shifted i j (x ∷ xs) = elim (test x) as (λ b. option_map (λ n. i + n) (cond b (Some j) (position_from test (j + 1) xs)) ≡ cond b (Some (i + j)) (position_from test (i + j + 1) xs)) [
+    | true ↦ refl
+    | false ↦ rw add_assoc (shifted i (j + 1) xs)
+  ]
+
+  -- the first of those from the start on, counted in the whole list
+  pub next_from_position : (xs : List X) (start : ℕ) → option_map (λ n. start + n) (position test (drop start xs)) ≡ next_of test xs start
+  next_from_position xs start =
+      ap (option_map (λ n. start + n)) (position_from-zero test (drop start xs)) ∙ rw add-zero at (shifted start 0 (drop start xs))

@@ -4,7 +4,8 @@ ghost use Rattle.tape.specs.RecordFacts.{one_ledger};
 ghost use Rattle.tape.specs.Records.{codes_of};
 ghost use Rattle.std.specs.List.{slice_get};
 
-use owned::{Owned, next_of};
+use owned::Owned;
+use owned::of_owner::of_owner;
 
 // One code that a ledger wrote.
 #[derive(Clone, Copy)]
@@ -37,14 +38,5 @@ pub struct Track {
 pub fn code_at(records: &[Record], ledger: u8, place: usize) -> Option<u8>
     ensures { result ≡ slice_get (codes_of ledger records.now) place }
 {
-    let mut start = 0;
-    let mut left = place;
-    while let Some(i) = next_of(records, start, &ledger) {
-        if left == 0 {
-            return Some(records[i].code);
-        }
-        left -= 1;
-        start = i + 1;
-    }
-    None
+    of_owner(records, &ledger).map(|r| r.code).nth(place)
 }

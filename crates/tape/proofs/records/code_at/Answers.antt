@@ -1,19 +1,13 @@
-use Rattle.std.proofs.Common.{sym, ap, ◌∙◌}
-use Rattle.std.specs.List.{slice_get}
-use Rattle.tape.specs.RecordFacts.{codes_next, codes_end, nth_ahead}
+use Rattle.std.proofs.Common.{filter, sym, rules, tests, ◌∙◌}
+use Rattle.std.proofs.lemmas.Iterator.{YieldsList-from_map}
+use Rattle.std.proofs.lemmas.Iterator.Adapters.{option_map_id}
+use Rattle.std.proofs.lemmas.Iterator.Consumers.{nth_from_yields_List, YieldsList-at, YieldsList-from_first}
+use Rattle.owned.specs.Search.{left_of}
+use Rattle.tape.specs.Records.{is_of}
 use Rattle.tape.proofs.records.code_at.Goals as goal
-
-pub returns-then-left-eq0 : goal.returns-then-left-eq0
-returns-then-left-eq0 c =
-    let next = codes_next c.args.ledger c.args.records.now c.loop-i.start c.in-Some.i (record { ledger = 0; code = 0 }) (sym c.in-Some.ensures.answer) in
-    sym (ap (λ codes. slice_get codes 0) next) ∙ ap (slice_get _) (sym c.if-left-eq0.true) ∙ c.loop-i.invariant
-
-pub loop-i-preserved : goal.loop-i-preserved
-loop-i-preserved c =
-    let next = codes_next c.args.ledger c.args.records.now c.loop-i.start c.in-Some.i (record { ledger = 0; code = 0 }) (sym c.in-Some.ensures.answer) in
-    sym (nth_ahead _ _ _ c.loop-i.left next c.if-left-eq0.false) ∙ c.loop-i.invariant
 
 pub returns : goal.returns
 returns c =
-    let end = codes_end c.args.ledger c.args.records.now c.loop-i.start (sym c.in_default.ensures.answer) in
-    sym (ap (λ codes. slice_get codes c.loop-i.left) end) ∙ c.loop-i.invariant
+    sym (option_map_id _)
+    ∙ nth_from_yields_List c.nth.result c.nth.new.self c.args.place c.nth.ensures.ran
+    (YieldsList-from_map _ (λ r. r.code) (YieldsList-at c.map.ensures.source (YieldsList-from_first (λ y. y.now) (λ s. left_of (λ r. is_of s.owner.now r) s.elements.now s.start) (filter (is_of c.args.ledger) c.args.records.now) c.of_owner.ensures)) c.map.ensures.closure (λ x r q k. search (rules, tests)))
