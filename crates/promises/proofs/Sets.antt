@@ -1,6 +1,8 @@
 -- Sets of ledgers: who is in one, who is missing, and how many are in.
 use Rattle.std.proofs.Common.{◌≡◌, ℕ, zero, suc, ◌+◌, ◌-◌, ◌<◌, ◌≤◌, Bool, true, false, cond, ◌||◌, eqb, List, [], ◌∷◌, length, get_or, set, replicate, is_some, Some, None, Option, sym, refl, ap, ◌∙◌, inl, inr, ⊎_elim, arith}
-use Rattle.std.proofs.lemmas.List.{get_or_past, get_or-replicate, get_or-set_same, get_or-set_other}
+use Rattle.std.specs.List.{count_by}
+use Rattle.std.proofs.lemmas.List.Sums.{count_by-le-length, sum_by-set}
+use Rattle.std.proofs.lemmas.List.{length-set, get_or_past, get_or-replicate, get_or-set_same, get_or-set_other}
 use Rattle.std.proofs.lemmas.Bool.{cases_eq, cases_lt}
 use Rattle.std.proofs.lemmas.Bool.Decides.{nat_tests}
 use Rattle.rules.specs.Ledgers.{empty, is_in, missing_from, first_missing, with_ledger}
@@ -79,24 +81,17 @@ module _ (one other : LedgerSet) where
 
 -- how many ledgers are in
 abbrev pub count : List Bool → ℕ
-count [] = 0
-count (b ∷ bs) = cond b 1 0 + count bs
+count bs = count_by (λ b. b) bs
 
 pub count_set : (bs : List Bool) (q : ℕ) → q < length bs → get_or bs q false ≡ false → count (set bs q true) ≡ suc (count bs)
-count_set [] q below absent = absurd (omega arith)
-count_set (b ∷ bs) zero below absent = grind arith
-count_set (b ∷ bs) (suc q) below absent = grind (arith, count_set bs q (omega arith) absent)
+count_set bs q below absent = grind (arith, sum_by-set (λ b. cond b 1 0) bs q true false below)
 
 pub count_most : (bs : List Bool) → count bs ≤ length bs
-count_most [] = omega arith
-count_most (true ∷ bs) = omega (arith, count_most bs)
-count_most (false ∷ bs) = omega (arith, count_most bs)
+count_most bs = count_by-le-length (λ b. b) bs
 
 -- not all are in where one is missing
 pub count_below : (bs : List Bool) (p : ℕ) → p < length bs → get_or bs p false ≡ false → count bs < length bs
-count_below [] p below absent = absurd (omega arith)
-count_below (b ∷ bs) zero below absent = grind (arith, count_most bs)
-count_below (b ∷ bs) (suc p) below absent = elim b as (λ v. cond v 1 0 + count bs < suc (length bs)) [ true ↦ omega (arith, count_below bs p (omega arith) absent) | false ↦ omega (arith, count_below bs p (omega arith) absent) ]
+count_below bs p below absent = omega (arith, count_set bs p below absent, count_most (set bs p true), length-set bs p true)
 
 -- how many of the k ledgers from i on are not in, and how many from i on and below end
 abbrev pub out_of : LedgerSet → ℕ → ℕ → ℕ

@@ -1,5 +1,7 @@
 -- Sums over the ledgers, and over the links between them.
 use Rattle.std.proofs.Common.{◌≡◌, ℕ, zero, suc, ◌+◌, ◌<◌, ◌≤◌, cond, ◌&&◌, eqb, ◌≢◌, List, [], ◌∷◌, ◌++◌, length, drop, sym, refl, ap, ◌∙◌, ⊎_elim, arith}
+use Rattle.std.specs.List.{sum_by}
+use Rattle.std.proofs.lemmas.List.Sums.{sum_by-cons, sum_by_push}
 use Rattle.std.proofs.lemmas.Bool.{cases_eq, eq-eqb}
 use Rattle.std.proofs.lemmas.Bool.Decides.{nat_tests}
 use Rattle.network.specs.Links.{Links, no_links}
@@ -40,31 +42,22 @@ pub table_one : (f g : ℕ → ℕ → ℕ) (a b : ℕ) → a < 8 → b < 8 → 
 unfolding table
 table_one f g a b a8 b8 same = pairs_one f g a b 8 a8 b8 same
 
--- the weights of the messages on a link, and on all
-abbrev pub weigh : (Message → ℕ) → List Message → ℕ
-weigh weight [] = 0
-weigh weight (m ∷ ms) = weight m + weigh weight ms
-
+-- the weights of the messages on all links
 unfoldable pub load : (Message → ℕ) → Links → ℕ
-load weight links = table (λ q p. weigh weight (links q p))
+load weight links = table (λ q p. sum_by weight (links q p))
 
 module _ (weight : Message → ℕ) where
-  weigh_push : (link : List Message) (m : Message) → weigh weight (link ++ (m ∷ [])) ≡ weigh weight link + weight m
-  weigh_push [] m = omega arith
-  weigh_push (x ∷ link) m = omega (arith, weigh_push link m)
-
-  weigh_rest : (link : List Message) (m : Message) → link ≡ m ∷ drop 1 link → weigh weight (drop 1 link) + weight m ≡ weigh weight link
-  weigh_rest [] m e = grind arith
-  weigh_rest (x ∷ link) m e = grind arith
+  weigh_rest : (link : List Message) (m : Message) → link ≡ m ∷ drop 1 link → sum_by weight (drop 1 link) + weight m ≡ sum_by weight link
+  weigh_rest link m e = omega (arith, ap (sum_by weight) e, sum_by-cons weight m (drop 1 link))
 
   -- one link changed
-  load_one : (L M : Links) (a b : ℕ) → a < 8 → b < 8 → ((q p : ℕ) → ((q ≡ a) × (p ≡ b) → ⊥) → L q p ≡ M q p) → load weight L + weigh weight (M a b) ≡ load weight M + weigh weight (L a b)
+  load_one : (L M : Links) (a b : ℕ) → a < 8 → b < 8 → ((q p : ℕ) → ((q ≡ a) × (p ≡ b) → ⊥) → L q p ≡ M q p) → load weight L + sum_by weight (M a b) ≡ load weight M + sum_by weight (L a b)
   unfolding load
-  load_one L M a b a8 b8 same = table_one (λ q p. weigh weight (L q p)) (λ q p. weigh weight (M q p)) a b a8 b8 (λ q p other. ap (weigh weight) (same q p other))
+  load_one L M a b a8 b8 same = table_one (λ q p. sum_by weight (L q p)) (λ q p. sum_by weight (M q p)) a b a8 b8 (λ q p other. ap (sum_by weight) (same q p other))
 
   pub load_same : (L M : Links) → ((q p : ℕ) → L q p ≡ M q p) → load weight L ≡ load weight M
   unfolding load
-  load_same L M same = table_same (λ q p. weigh weight (L q p)) (λ q p. weigh weight (M q p)) (λ q p. ap (weigh weight) (same q p))
+  load_same L M same = table_same (λ q p. sum_by weight (L q p)) (λ q p. sum_by weight (M q p)) (λ q p. ap (sum_by weight) (same q p))
 
   module _ (n p : ℕ) (few : n ≤ 8) (mine : p < n) where
     load_gave : (L : Links) (effect : Effect) → Aimed n p effect → load weight (λ a b. gave p effect a b (L a b)) ≡ load weight L + sent_by weight effect
@@ -72,12 +65,12 @@ module _ (weight : Message → ℕ) where
     load_gave L (Write entry) aimed = omega arith
     load_gave L (Send q m) aimed =
         let own : gave p (Send q m) p q (L p q) ≡ L p q ++ (m ∷ []) = rw (eq-eqb p p refl, eq-eqb q q refl) in
-        omega (arith, load_one (λ a b. gave p (Send q m) a b (L a b)) L p q (omega arith) (omega arith) (λ a b other. grind (arith, nat_tests, other)), ap (weigh weight) own, weigh_push (L p q) m)
+        omega (arith, load_one (λ a b. gave p (Send q m) a b (L a b)) L p q (omega arith) (omega arith) (λ a b other. grind (arith, nat_tests, other)), ap (sum_by weight) own, sum_by_push weight (L p q) m)
 
     takes_first : (L : Links) (q : ℕ) (m : Message) → q < n → L q p ≡ m ∷ drop 1 (L q p) → load weight (λ a b. cond (eqb q a && eqb p b) (drop 1 (L a b)) (L a b)) + weight m ≡ load weight L
     takes_first L q m known first =
         let own : cond (eqb q q && eqb p p) (drop 1 (L q p)) (L q p) ≡ drop 1 (L q p) = rw (eq-eqb p p refl, eq-eqb q q refl) in
-        omega (arith, load_one (λ a b. cond (eqb q a && eqb p b) (drop 1 (L a b)) (L a b)) L q p (omega arith) (omega arith) (λ a b other. grind (arith, nat_tests, other)), ap (weigh weight) own, weigh_rest (L q p) m first)
+        omega (arith, load_one (λ a b. cond (eqb q a && eqb p b) (drop 1 (L a b)) (L a b)) L q p (omega arith) (omega arith) (λ a b other. grind (arith, nat_tests, other)), ap (sum_by weight) own, weigh_rest (L q p) m first)
 
     hears_first : (L : Links) (effect : Effect) (q : ℕ) (m : Message) → q < n → q ≢ p → L q p ≡ m ∷ drop 1 (L q p) → Aimed n p effect → load weight (λ a b. cond (eqb q a && eqb p b) (drop 1 (gave p effect a b (L a b))) (gave p effect a b (L a b))) + weight m ≡ load weight L + sent_by weight effect
     hears_first L effect q m known other first aimed =
@@ -98,14 +91,14 @@ module _ (weight : Message → ℕ) where
         ap (λ k. k + taken_by weight input) (load_same s'.links (λ a b. took p input a b (gave p r.effect a b (s.links a b))) move.changes.link)
         ∙ moves s (member_of s p) (row_of s p) (s.entries p) input r same refl move.rule move.first aimed
 
-weigh_one : (link : List Message) → weigh one link ≡ length link
+weigh_one : (link : List Message) → sum_by one link ≡ length link
 weigh_one [] = refl
-weigh_one (m ∷ link) = omega (arith, weigh_one link)
+weigh_one (m ∷ link) = omega (arith, sum_by-cons one m link, weigh_one link)
 
 -- the number of messages on their way
 pub load_one_each : (s : State) → load one s.links ≡ on_the_way s
 unfolding load table on_the_way
-load_one_each s = sum_same (λ q. sum_below (λ p. weigh one (s.links q p)) 8) (λ q. sum_below (λ p. length (s.links q p)) 8) 8 (λ q _. sum_same (λ p. weigh one (s.links q p)) (λ p. length (s.links q p)) 8 (λ p _. weigh_one (s.links q p)))
+load_one_each s = sum_same (λ q. sum_below (λ p. sum_by one (s.links q p)) 8) (λ q. sum_below (λ p. length (s.links q p)) 8) 8 (λ q _. sum_same (λ p. sum_by one (s.links q p)) (λ p. length (s.links q p)) 8 (λ p _. weigh_one (s.links q p)))
 
 -- nothing is on its way at first
 pub load_none : (weight : Message → ℕ) → load weight no_links ≡ 0
