@@ -21,6 +21,7 @@ pub struct Row {
     pub noes: LedgerSet,
 }
 
+// Apart from the row: a rule changes the row on its way, and who the ledger is stays.
 #[derive(Clone, Copy, Debug, PartialEq, Eq)]
 pub struct Member {
     // How many ledgers take part.
