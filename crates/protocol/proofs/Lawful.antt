@@ -1,9 +1,9 @@
 -- Every call is lawful.
-use Rattle.std.proofs.Common.{◌≡◌, ℕ, ◌+◌, ◌-◌, ◌^◌, ◌≤◌, min, Bool, true, false, cond, ◌&&◌, eqb, ltb, ◌≢◌, [], ◌∷◌, ◌++◌, length, get_or, set, is_ok, is_err, Ok, Err, Result, sym, refl, ap, ◌∙◌, subst, append-nil, arith, length-set, get_or-set_other, get_or-set_same}
+use Rattle.std.proofs.Common.{◌≡◌, ℕ, ◌+◌, ◌-◌, ◌^◌, ◌≤◌, min, Bool, true, false, cond, ◌&&◌, eqb, ltb, ◌≢◌, List, [], ◌∷◌, ◌++◌, length, get_or, set, is_ok, is_err, Ok, Err, Result, sym, refl, ap, ◌∙◌, subst, append-nil, arith, length-set, get_or-set_other, get_or-set_same}
 use Rattle.std.proofs.lemmas.List.{get_or_past}
 use Rattle.std.proofs.lemmas.Bool.{eqb-false, eqb-true, ltb-true}
 use Rattle.std.proofs.lemmas.Bool.Decides.{nat_tests}
-use Rattle.journals.specs.Calls.{append_answer, with_entry}
+use Rattle.journals.specs.Calls.{Entries, append_answer, with_entry}
 use Rattle.journals.specs.Codes.{code_of}
 use Rattle.journals.specs.declared.fault.JournalsFault.{JournalsFault}
 use Rattle.network.proofs.LinkFacts.{own_link}
@@ -65,28 +65,26 @@ module _ (s : State) (p : ℕ) (row : Row) (steady : Steady (row_of s p) row) wh
   rows_set q other = get_or-set_other s.rows p q row no_row other
 
   module _ (named : ℕ → ℕ → Bool) where
-    -- only the row changed
-    only_row : Lawful p named false s (with_row s p row)
-    only_row = record {
+    -- the row is stored, and of the rest only p's journal and what p sends change
+    stored : (links : Links) (entries : Entries) (sent : ℕ)
+        → let after : State = record { ledgers = s.ledgers; votes = s.votes; rows = set s.rows p row; links = links; entries = entries; sent = sent } in
+        ((q : ℕ) → q ≢ p → entries q ≡ s.entries q) → ((more : List ℕ) × (length more ≤ 1) × (entries p ≡ s.entries p ++ more)) → Exchange p named s after → Lawful p named false s after
+    stored links entries sent journals grows exchange = record {
       refusal = λ wrong. grind arith;
       members = (refl, refl);
       rows = rows_set;
-      journals = λ q other. refl;
-      grows = ([], omega arith, sym (append-nil (s.entries p)));
-      exchange = silent p named s (with_row s p row) refl refl;
+      journals = journals;
+      grows = grows;
+      exchange = exchange;
       steady = steady_set;
     }
 
+    -- only the row changed
+    only_row : Lawful p named false s (with_row s p row)
+    only_row = stored s.links s.entries s.sent (λ q other. refl) ([], omega arith, sym (append-nil (s.entries p))) (silent p named s _ refl refl)
+
     wrote : (code : ℕ) (answer : Result Unit JournalsFault) → Lawful p named (is_err (from_journals answer)) s (cond (is_ok (from_journals answer)) (record { ledgers = s.ledgers; votes = s.votes; rows = set s.rows p row; links = s.links; entries = cond (is_ok answer) (with_entry s.entries p code) s.entries; sent = s.sent }) s)
-    wrote code (Ok x) = record {
-      refusal = λ wrong. grind arith;
-      members = (refl, refl);
-      rows = rows_set;
-      journals = λ q other. grind (arith, nat_tests);
-      grows = (code ∷ [], omega arith, grind (arith, nat_tests));
-      exchange = silent p named s _ refl refl;
-      steady = steady_set;
-    }
+    wrote code (Ok x) = stored s.links _ s.sent (λ q other. grind (arith, nat_tests)) (code ∷ [], omega arith, grind (arith, nat_tests)) (silent p named s _ refl refl)
     wrote code (Err fault) = unchanged p named true s
 
     put_there : (L : Links) (q : ℕ) (message : Message) (a b : ℕ) → with_link L p q (L p q ++ (message ∷ [])) a b ≡ L a b ++ onto p ((q, message) ∷ []) a b
@@ -98,15 +96,9 @@ module _ (s : State) (p : ℕ) (row : Row) (steady : Steady (row_of s p) row) wh
         by_test false = sym (append-nil (L a b))
 
     gave : (q : ℕ) (message : Message) (answer : Result Unit NetworkFault) → Lawful p named (is_err (from_network answer)) s (cond (is_ok (from_network answer)) (record { ledgers = s.ledgers; votes = s.votes; rows = set s.rows p row; links = cond (is_ok answer) (with_link s.links p q (s.links p q ++ (message ∷ []))) s.links; entries = s.entries; sent = min (s.sent + 1) (2 ^ 64 - 1) }) s)
-    gave q message (Ok x) = record {
-      refusal = λ wrong. grind arith;
-      members = (refl, refl);
-      rows = rows_set;
-      journals = λ r other. refl;
-      grows = ([], omega arith, sym (append-nil (s.entries p)));
-      exchange = record { took = false; sent = (q, message) ∷ []; one = omega arith; links = put_there s.links q message; total = λ fits. omega arith };
-      steady = steady_set;
-    }
+    gave q message (Ok x) =
+        stored _ s.entries _ (λ r other. refl) ([], omega arith, sym (append-nil (s.entries p)))
+        (record { took = false; sent = (q, message) ∷ []; one = omega arith; links = put_there s.links q message; total = λ fits. omega arith })
     gave q message (Err fault) = unchanged p named true s
 
     pub performs : (depth : ℕ) (effect : Effect) → Lawful p named (is_err (perform_answer depth s p effect)) s (perform_after depth s p row effect)
