@@ -1,5 +1,6 @@
 -- One move, seen from all ledgers.
 use Rattle.std.proofs.Common.{◌≡◌, ℕ, ◌<◌, ◌≤◌, Bool, true, false, not, ◌||◌, ◌≢◌, ◌⊎◌, List, sym, refl, ap, ◌∙◌, subst, inl, inr, ⊎_elim, arith}
+use Rattle.std.specs.List.{list_any}
 use Rattle.std.proofs.lemmas.Bool.{both_ways, cases_Bool, cases_eq, or_cases, or_left, or_right}
 use Rattle.std.proofs.lemmas.Bool.Decides.{nat_tests}
 use Rattle.network.specs.declared.message.Decision.{Decision}
@@ -21,7 +22,7 @@ use Rattle.promises.proofs.Did.{Acts, expiring, expiry_comes, has_wrote, hears_t
 use Rattle.promises.proofs.Each.{AllEach, Each, each_after, each_new, me}
 use Rattle.promises.proofs.Shape.{lower_kept, lower_left}
 use Rattle.promises.proofs.Journal.{is, knows}
-use Rattle.promises.proofs.Moves.{Input, Cause, Move, Rule, Sound, every_run, plain_run, any_in, gives, given_there, has_still, still_there, takes, taken_there, there_before, written}
+use Rattle.promises.proofs.Moves.{Input, Cause, Move, Rule, Sound, every_run, plain_run, gives, given_there, has_still, still_there, takes, taken_there, there_before, written}
 
 pub takes_source : (test : Message → Bool) (input : Input) → hears_that test input ≡ true → takes test input (source input) ≡ true
 takes_source test input e = grind (arith, nat_tests)
@@ -56,17 +57,17 @@ module _ {n : ℕ} {votes : List Vote} {s s' : State} {p : ℕ} {input : Input} 
       record { by_rule = subst (λ (who : Member). Rule who (row_of s p) (s.entries p) input r) same t.move.rule }
 
   -- a message on its way was there before, or is given by p now; it is still there, or p takes it
-  pub was_there : (test : Message → Bool) (a b : ℕ) → any_in test (s'.links a b) ≡ true → (any_in test (s.links a b) ≡ true) ⊎ ((a ≡ p) × (gives test r.effect b ≡ true))
+  pub was_there : (test : Message → Bool) (a b : ℕ) → list_any test (s'.links a b) ≡ true → (list_any test (s.links a b) ≡ true) ⊎ ((a ≡ p) × (gives test r.effect b ≡ true))
   was_there test = there_before s p input r s' t.move test
 
-  pub is_there : (test : Message → Bool) (a b : ℕ) → any_in test (s.links a b) ≡ true → (any_in test (s'.links a b) ≡ true) ⊎ ((b ≡ p) × (takes test input a ≡ true))
+  pub is_there : (test : Message → Bool) (a b : ℕ) → list_any test (s.links a b) ≡ true → (list_any test (s'.links a b) ≡ true) ⊎ ((b ≡ p) × (takes test input a ≡ true))
   is_there test = still_there s p input r s' t.move test
 
-  pub now_there : (test : Message → Bool) (b : ℕ) → gives test r.effect b ≡ true → any_in test (s'.links p b) ≡ true
+  pub now_there : (test : Message → Bool) (b : ℕ) → gives test r.effect b ≡ true → list_any test (s'.links p b) ≡ true
   now_there test = given_there s p input r s' t.move test
 
   -- what p hears was on its way to it
-  pub heard_there : (test : Message → Bool) → hears_that test input ≡ true → any_in test (s.links (source input) p) ≡ true
+  pub heard_there : (test : Message → Bool) → hears_that test input ≡ true → list_any test (s.links (source input) p) ≡ true
   heard_there test e = taken_there s p input r s' t.move test (source input) (takes_source test input e)
 
   -- what stands in a journal stood there before, or p writes it now

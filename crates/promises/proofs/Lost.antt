@@ -1,5 +1,6 @@
 -- Nothing that is waited for is lost: Prepares, votes, Asks and Replies.
 use Rattle.std.proofs.Common.{◌≡◌, ℕ, ◌<◌, ◌≤◌, Bool, true, false, not, ◌&&◌, ◌||◌, eqb, ◌≢◌, List, sym, refl, subst, ⊎_elim, arith}
+use Rattle.std.specs.List.{list_any}
 use Rattle.std.proofs.lemmas.Bool.{both_ways, cases_Bool, cases_eq, ltb-true, ne_eqb, or_cases, or_left, or_right}
 use Rattle.network.specs.declared.message.Vote.{Vote}
 use Rattle.rules.specs.Ledgers.{is_in}
@@ -13,7 +14,7 @@ use Rattle.promises.specs.Runs.{new}
 use Rattle.promises.proofs.Between.{Turn, acts, has_then, heard_there, is_there, leads_again, mine, mover, now_there, own_or_other, runs_before, turns, was_there}
 use Rattle.promises.proofs.Did.{asks, expiring, has_wrote, hears_that, keeps_round, leads_before, prepares, replies, source, still_runs, wrote}
 use Rattle.promises.proofs.Journal.{has_none, promised}
-use Rattle.promises.proofs.Moves.{Input, any_in, takes}
+use Rattle.promises.proofs.Moves.{Input, takes}
 use Rattle.promises.proofs.Sets.{in_either}
 use Rattle.promises.proofs.Shape.{Notes}
 use Rattle.promises.proofs.Waits.{answers, asked_anew, asked_on, begins_first, gave_prepare, has_voted, heard_reply, heard_still, heard_vote, new_counts, new_promise, new_voted, prepared_on, reach, replied_still, still_initial, taker_hears, upto, votes as is_vote}
@@ -21,15 +22,15 @@ use Rattle.promises.proofs.Wanted.{row_of_new}
 
 -- nothing of the vote happens before the coordinator's begin
 pub record Begun (n : ℕ) (s : State) : Type 0 where
-  pub sent : (a b : ℕ) → any_in prepares (s.links a b) ≡ true → has 1 (s.entries 0) ≡ true
+  pub sent : (a b : ℕ) → list_any prepares (s.links a b) ≡ true → has 1 (s.entries 0) ≡ true
   pub promises : (b : ℕ) → b < n → runs (row_of s b).status ≡ true → promised (row_of s b).stage ≡ true → has 1 (s.entries 0) ≡ true
   pub counting : runs (row_of s 0).status ≡ true → counts (row_of s 0).stage ≡ true → has 1 (s.entries 0) ≡ true
 
 pub record Unlost (n : ℕ) (s : State) : Type 0 where
   pub begun : Begun n s
-  pub prepare_there : (b : ℕ) → 1 ≤ b → b < n → runs (row_of s 0).status ≡ true → runs (row_of s b).status ≡ true → initial (row_of s b).stage ≡ true → b < reach n (row_of s 0).stage → any_in prepares (s.links 0 b) ≡ true
-  pub vote_there : (b : ℕ) → 1 ≤ b → b < n → runs (row_of s 0).status ≡ true → counts (row_of s 0).stage ≡ true → runs (row_of s b).status ≡ true → has_voted (row_of s b).stage ≡ true → in_either (row_of s 0).ayes (row_of s 0).noes b ≡ false → any_in is_vote (s.links b 0) ≡ true
-  pub ask_there : (l b : ℕ) → l < n → l < b → b < n → runs (row_of s l).status ≡ true → leads (row_of s l).stage ≡ true → runs (row_of s b).status ≡ true → is_in (row_of s l).noticed b ≡ false → is_in (row_of s l).replied b ≡ false → b < upto n (row_of s l).stage → (any_in (asks (row_of s l).round) (s.links l b) || any_in (replies (row_of s l).round) (s.links b l)) ≡ true
+  pub prepare_there : (b : ℕ) → 1 ≤ b → b < n → runs (row_of s 0).status ≡ true → runs (row_of s b).status ≡ true → initial (row_of s b).stage ≡ true → b < reach n (row_of s 0).stage → list_any prepares (s.links 0 b) ≡ true
+  pub vote_there : (b : ℕ) → 1 ≤ b → b < n → runs (row_of s 0).status ≡ true → counts (row_of s 0).stage ≡ true → runs (row_of s b).status ≡ true → has_voted (row_of s b).stage ≡ true → in_either (row_of s 0).ayes (row_of s 0).noes b ≡ false → list_any is_vote (s.links b 0) ≡ true
+  pub ask_there : (l b : ℕ) → l < n → l < b → b < n → runs (row_of s l).status ≡ true → leads (row_of s l).stage ≡ true → runs (row_of s b).status ≡ true → is_in (row_of s l).noticed b ≡ false → is_in (row_of s l).replied b ≡ false → b < upto n (row_of s l).stage → (list_any (asks (row_of s l).round) (s.links l b) || list_any (replies (row_of s l).round) (s.links b l)) ≡ true
 
 unlost_new : (n : ℕ) (votes : List Vote) → Unlost n (new n votes)
 unlost_new n votes = record {
@@ -50,7 +51,7 @@ module _ {n : ℕ} {votes : List Vote} {s s' : State} {p : ℕ} {input : Input} 
   row_zero : p ≡ 0 → row_of s' 0 ≡ r.row
   row_zero z = subst (λ (x : ℕ). row_of s' x ≡ r.row) z t.move.changes.own_row
 
-  sent_then : (a b : ℕ) → any_in prepares (s'.links a b) ≡ true → has 1 (s'.entries 0) ≡ true
+  sent_then : (a b : ℕ) → list_any prepares (s'.links a b) ≡ true → has 1 (s'.entries 0) ≡ true
   sent_then a b e = has_then t 1 0 (⊎_elim (λ old. w.begun.sent a b old) (λ new. given (gave_prepare (acts t) b new.1)) (was_there t prepares a b e))
     where
       given : (runs (row_of s p).status ≡ true) × (counts (row_of s p).stage ≡ true) → has 1 (s.entries 0) ≡ true
@@ -75,13 +76,13 @@ module _ {n : ℕ} {votes : List Vote} {s s' : State} {p : ℕ} {input : Input} 
           ⊎_elim (λ old. has_then t 1 0 (w.begun.counting (runs_before t 0 running) (subst (λ (x : ℕ). counts (row_of s x).stage ≡ true) (sym same) old))) (λ new. subst (λ (x : ℕ). has 1 (s'.entries x) ≡ true) (sym same) (written_now new))
           (or_cases _ _ (new_counts (acts t) (rw row at running) (rw row at e)))
 
-  prepare_then : (b : ℕ) → 1 ≤ b → b < n → runs (row_of s' 0).status ≡ true → runs (row_of s' b).status ≡ true → initial (row_of s' b).stage ≡ true → b < reach n (row_of s' 0).stage → any_in prepares (s'.links 0 b) ≡ true
+  prepare_then : (b : ℕ) → 1 ≤ b → b < n → runs (row_of s' 0).status ≡ true → runs (row_of s' b).status ≡ true → initial (row_of s' b).stage ≡ true → b < reach n (row_of s' 0).stage → list_any prepares (s'.links 0 b) ≡ true
   prepare_then b low known run0 runb init below = ⊎_elim own other (cases_eq p 0)
     where
-      before : initial (row_of s b).stage ≡ true → b < reach n (row_of s 0).stage → any_in prepares (s.links 0 b) ≡ true
+      before : initial (row_of s b).stage ≡ true → b < reach n (row_of s 0).stage → list_any prepares (s.links 0 b) ≡ true
       before i e = w.prepare_there b low known (runs_before t 0 run0) (runs_before t b runb) i e
 
-      own : p ≡ 0 → any_in prepares (s'.links 0 b) ≡ true
+      own : p ≡ 0 → list_any prepares (s'.links 0 b) ≡ true
       own z =
           let apart : b ≢ p = λ e. omega (arith, e, z, low) in
           let row = row_zero z in
@@ -90,18 +91,18 @@ module _ {n : ℕ} {votes : List Vote} {s s' : State} {p : ℕ} {input : Input} 
           (λ new. rw z at (now_there t prepares b new))
           (or_cases _ _ (prepared_on (acts t) b low known (rw row at run0) (rw row at below)))
 
-      still_here : p ≢ 0 → any_in prepares (s.links 0 b) ≡ true → (b ≡ p → hears_that prepares input ≡ false) → any_in prepares (s'.links 0 b) ≡ true
+      still_here : p ≢ 0 → list_any prepares (s.links 0 b) ≡ true → (b ≡ p → hears_that prepares input ≡ false) → list_any prepares (s'.links 0 b) ≡ true
       still_here z there deaf =
           ⊎_elim (λ still. still) (λ (gone : (b ≡ p) × (takes prepares input 0 ≡ true)). absurd (both_ways _ (deaf gone.0) (taker_hears (acts t) prepares 0 (rw gone.0 at (runs_before t b runb)) gone.1)))
           (is_there t prepares 0 b there)
 
-      other : p ≢ 0 → any_in prepares (s'.links 0 b) ≡ true
+      other : p ≢ 0 → list_any prepares (s'.links 0 b) ≡ true
       other z = ⊎_elim mover_case (λ (apart : (b ≢ p) × (row_of s' b ≡ row_of s b)). still_here z (before (rw apart.1 at init) far) (λ same. absurd (apart.0 same))) (own_or_other t b)
         where
           far : b < reach n (row_of s 0).stage
           far = rw (t.move.changes.other_row 0 (λ e. z (sym e))) at below
 
-          mover_case : (b ≡ p) × (row_of s' b ≡ r.row) → any_in prepares (s'.links 0 b) ≡ true
+          mover_case : (b ≡ p) × (row_of s' b ≡ r.row) → list_any prepares (s'.links 0 b) ≡ true
           mover_case (same, row) =
               let i = still_initial (acts t) (rw row at runb) (rw row at init) in
               still_here z (before (rw same i.0) far) (λ _. deaf (hears_that prepares input) (eqb p 0) (ne_eqb p 0 z) i.1)
@@ -109,10 +110,10 @@ module _ {n : ℕ} {votes : List Vote} {s s' : State} {p : ℕ} {input : Input} 
               deaf : (h e : Bool) → e ≡ false → (h && not e) ≡ false → h ≡ false
               deaf h e f g = grind arith
 
-  vote_then : (b : ℕ) → 1 ≤ b → b < n → runs (row_of s' 0).status ≡ true → counts (row_of s' 0).stage ≡ true → runs (row_of s' b).status ≡ true → has_voted (row_of s' b).stage ≡ true → in_either (row_of s' 0).ayes (row_of s' 0).noes b ≡ false → any_in is_vote (s'.links b 0) ≡ true
+  vote_then : (b : ℕ) → 1 ≤ b → b < n → runs (row_of s' 0).status ≡ true → counts (row_of s' 0).stage ≡ true → runs (row_of s' b).status ≡ true → has_voted (row_of s' b).stage ≡ true → in_either (row_of s' 0).ayes (row_of s' 0).noes b ≡ false → list_any is_vote (s'.links b 0) ≡ true
   vote_then b low known run0 c runb v out = ⊎_elim own other (cases_eq p 0)
     where
-      own : p ≡ 0 → any_in is_vote (s'.links b 0) ≡ true
+      own : p ≡ 0 → list_any is_vote (s'.links b 0) ≡ true
       own z = ⊎_elim (λ still. still) (λ gone. absurd (both_ways _ unheard (heard_vote (acts t) b t.few notes.ayes_long notes.noes_long runs_then counts_then gone.1))) (is_there t is_vote b 0 there)
         where
           notes : Notes p (row_of s p)
@@ -143,28 +144,28 @@ module _ {n : ℕ} {votes : List Vote} {s s' : State} {p : ℕ} {input : Input} 
           out_before : in_either (row_of s p).ayes (row_of s p).noes b ≡ false
           out_before = ⊎_elim (λ there. absurd (both_ways _ unheard (heard_still (acts t) b t.few notes.ayes_long notes.noes_long runs_then there))) (λ none. none) (cases_Bool _)
 
-          there : any_in is_vote (s.links b 0) ≡ true
+          there : list_any is_vote (s.links b 0) ≡ true
           there = w.vote_there b low known (runs_before t 0 run0) (rw z at counted) (runs_before t b runb) voted (rw z at out_before)
 
-      other : p ≢ 0 → any_in is_vote (s'.links b 0) ≡ true
+      other : p ≢ 0 → list_any is_vote (s'.links b 0) ≡ true
       other z = ⊎_elim moves (λ apart. before (rw apart.1 at v)) (own_or_other t b)
         where
           row : row_of s' 0 ≡ row_of s 0
           row = t.move.changes.other_row 0 (λ e. z (sym e))
 
-          before : has_voted (row_of s b).stage ≡ true → any_in is_vote (s'.links b 0) ≡ true
+          before : has_voted (row_of s b).stage ≡ true → list_any is_vote (s'.links b 0) ≡ true
           before voted =
               ⊎_elim (λ still. still) (λ gone. absurd (z (sym gone.0)))
               (is_there t is_vote b 0 (w.vote_there b low known (runs_before t 0 run0) (rw row at c) (runs_before t b runb) voted (rw row at out)))
 
-          moves : (b ≡ p) × (row_of s' b ≡ r.row) → any_in is_vote (s'.links b 0) ≡ true
+          moves : (b ≡ p) × (row_of s' b ≡ r.row) → list_any is_vote (s'.links b 0) ≡ true
           moves (same, mine_then) =
               ⊎_elim (λ old. before (rw same old)) (λ new. rw same (now_there t is_vote 0 new))
               (or_cases _ _ (new_voted (acts t) (rw mine_then at runb) (rw mine_then at v)))
 
   -- the leader itself moves
   module _ (b : ℕ) (low : p < b) (kb : b < n) (running : runs r.row.status ≡ true) (lead : leads r.row.stage ≡ true) (runb : runs (row_of s' b).status ≡ true) (out : is_in r.row.noticed b ≡ false) (silent : is_in r.row.replied b ≡ false) (below : b < upto n r.row.stage) where
-    own_round : expiring input ≡ false → (any_in (asks (row_of s p).round) (s'.links p b) || any_in (replies (row_of s p).round) (s'.links b p)) ≡ true
+    own_round : expiring input ≡ false → (list_any (asks (row_of s p).round) (s'.links p b) || list_any (replies (row_of s p).round) (s'.links b p)) ≡ true
     own_round quiet = ⊎_elim (λ old. ⊎_elim asks_still replies_still (or_cases _ _ (there (ltb-true b (upto n (row_of s p).stage) old)))) (λ new. or_left _ _ (now_there t (asks (row_of s p).round) b new)) (or_cases _ _ (asked_on (acts t) t.few b low kb quiet running lead absent below))
       where
         absent : is_in (row_of s p).noticed b ≡ false
@@ -173,36 +174,36 @@ module _ {n : ℕ} {votes : List Vote} {s s' : State} {p : ℕ} {input : Input} 
         silent_before : is_in (row_of s p).replied b ≡ false
         silent_before = ⊎_elim (λ there. absurd (both_ways _ silent (replied_still (acts t) b t.few (mover t).notes.replied_long running quiet there))) (λ none. none) (cases_Bool _)
 
-        there : b < upto n (row_of s p).stage → (any_in (asks (row_of s p).round) (s.links p b) || any_in (replies (row_of s p).round) (s.links b p)) ≡ true
+        there : b < upto n (row_of s p).stage → (list_any (asks (row_of s p).round) (s.links p b) || list_any (replies (row_of s p).round) (s.links b p)) ≡ true
         there far = w.ask_there p b (mine t) low kb (still_runs (acts t) running) (leads_before (acts t) quiet running lead) (runs_before t b runb) absent silent_before far
 
-        asks_still : any_in (asks (row_of s p).round) (s.links p b) ≡ true → (any_in (asks (row_of s p).round) (s'.links p b) || any_in (replies (row_of s p).round) (s'.links b p)) ≡ true
+        asks_still : list_any (asks (row_of s p).round) (s.links p b) ≡ true → (list_any (asks (row_of s p).round) (s'.links p b) || list_any (replies (row_of s p).round) (s'.links b p)) ≡ true
         asks_still e = ⊎_elim (λ still. or_left _ _ still) (λ gone. absurd (omega (arith, gone.0, low))) (is_there t (asks (row_of s p).round) p b e)
 
-        replies_still : any_in (replies (row_of s p).round) (s.links b p) ≡ true → (any_in (asks (row_of s p).round) (s'.links p b) || any_in (replies (row_of s p).round) (s'.links b p)) ≡ true
+        replies_still : list_any (replies (row_of s p).round) (s.links b p) ≡ true → (list_any (asks (row_of s p).round) (s'.links p b) || list_any (replies (row_of s p).round) (s'.links b p)) ≡ true
         replies_still e =
             ⊎_elim (λ still. or_right _ _ still) (λ gone. absurd (both_ways _ silent (heard_reply (acts t) b t.few (mover t).notes.replied_long running lead gone.1)))
             (is_there t (replies (row_of s p).round) b p e)
 
-    own_asks : (any_in (asks r.row.round) (s'.links p b) || any_in (replies r.row.round) (s'.links b p)) ≡ true
+    own_asks : (list_any (asks r.row.round) (s'.links p b) || list_any (replies r.row.round) (s'.links b p)) ≡ true
     own_asks =
         ⊎_elim (λ expiry. absurd (both_ways _ out (asked_anew (acts t) t.few b low kb expiry (leads_again t expiry) lead below)))
-        (λ quiet. subst (λ (k : ℕ). (any_in (asks k) (s'.links p b) || any_in (replies k) (s'.links b p)) ≡ true) (sym (keeps_round (acts t) quiet running).0) (own_round quiet)) (cases_Bool (expiring input))
+        (λ quiet. subst (λ (k : ℕ). (list_any (asks k) (s'.links p b) || list_any (replies k) (s'.links b p)) ≡ true) (sym (keeps_round (acts t) quiet running).0) (own_round quiet)) (cases_Bool (expiring input))
 
-  ask_then : (l b : ℕ) → l < n → l < b → b < n → runs (row_of s' l).status ≡ true → leads (row_of s' l).stage ≡ true → runs (row_of s' b).status ≡ true → is_in (row_of s' l).noticed b ≡ false → is_in (row_of s' l).replied b ≡ false → b < upto n (row_of s' l).stage → (any_in (asks (row_of s' l).round) (s'.links l b) || any_in (replies (row_of s' l).round) (s'.links b l)) ≡ true
+  ask_then : (l b : ℕ) → l < n → l < b → b < n → runs (row_of s' l).status ≡ true → leads (row_of s' l).stage ≡ true → runs (row_of s' b).status ≡ true → is_in (row_of s' l).noticed b ≡ false → is_in (row_of s' l).replied b ≡ false → b < upto n (row_of s' l).stage → (list_any (asks (row_of s' l).round) (s'.links l b) || list_any (replies (row_of s' l).round) (s'.links b l)) ≡ true
   ask_then l b kl low kb runl lead runb out silent below = ⊎_elim own other (own_or_other t l)
     where
-      own : (l ≡ p) × (row_of s' l ≡ r.row) → (any_in (asks (row_of s' l).round) (s'.links l b) || any_in (replies (row_of s' l).round) (s'.links b l)) ≡ true
+      own : (l ≡ p) × (row_of s' l ≡ r.row) → (list_any (asks (row_of s' l).round) (s'.links l b) || list_any (replies (row_of s' l).round) (s'.links b l)) ≡ true
       own (same, row) = rw (row, same) (own_asks b (rw same at low) kb (rw row at runl) (rw row at lead) runb (rw row at out) (rw row at silent) (rw row at below))
 
-      other : (l ≢ p) × (row_of s' l ≡ row_of s l) → (any_in (asks (row_of s' l).round) (s'.links l b) || any_in (replies (row_of s' l).round) (s'.links b l)) ≡ true
+      other : (l ≢ p) × (row_of s' l ≡ row_of s l) → (list_any (asks (row_of s' l).round) (s'.links l b) || list_any (replies (row_of s' l).round) (s'.links b l)) ≡ true
       other (apart, row) =
           rw row
           (⊎_elim (λ asked. ⊎_elim (λ still. or_left _ _ still) (λ gone. or_right _ _ (replied gone.0 gone.1)) (is_there t (asks (row_of s l).round) l b asked))
           (λ reply. ⊎_elim (λ still. or_right _ _ still) (λ gone. absurd (apart gone.0)) (is_there t (replies (row_of s l).round) b l reply))
           (or_cases _ _ (w.ask_there l b kl low kb (runs_before t l runl) (rw row at lead) (runs_before t b runb) (rw row at out) (rw row at silent) (rw row at below))))
         where
-          replied : b ≡ p → takes (asks (row_of s l).round) input l ≡ true → any_in (replies (row_of s l).round) (s'.links b l) ≡ true
+          replied : b ≡ p → takes (asks (row_of s l).round) input l ≡ true → list_any (replies (row_of s l).round) (s'.links b l) ≡ true
           replied same gone = rw same (now_there t (replies (row_of s l).round) l (answers (acts t) (row_of s l).round l (rw same at (runs_before t b runb)) gone))
 
   unlost_then : Unlost n s'

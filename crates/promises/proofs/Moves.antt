@@ -2,10 +2,12 @@
 use Rattle.std.proofs.Common.{◌≡◌, ℕ, ◌+◌, ◌-◌, ◌^◌, ◌<◌, ◌≤◌, min, Bool, true, false, cond, ◌&&◌, ◌||◌, eqb, ◌≢◌, ◌⊎◌, List, [], ◌∷◌, ◌++◌, length, drop, set, is_some, is_ok, Some, Ok, Err, Result, sym, refl, ap, ◌∙◌, inl, inr, ⊎_elim, arith}
 use Rattle.std.proofs.Math.Path.{subst₂}
 use Rattle.std.proofs.lemmas.List.{length-set, get_or-set_same, get_or-set_other}
+use Rattle.std.proofs.Math.Bool.{or-false}
+use Rattle.std.proofs.lemmas.List.Folds.{list_any-append}
 use Rattle.std.proofs.lemmas.Bool.{and_parts, cases_eq, eq-eqb, eqb-true, ne_eqb, or_cases, or_right}
 use Rattle.std.proofs.lemmas.Bool.Decides.{nat_tests}
 use Rattle.std.specs.Option.{ok_or}
-use Rattle.std.specs.List.{slice_get}
+use Rattle.std.specs.List.{list_any, slice_get}
 use Rattle.journals.specs.Calls.{Entries, append_answer}
 use Rattle.journals.specs.Codes.{code_of}
 use Rattle.journals.specs.declared.entry.Entry.TheVariants.{Begin as BegunEntry}
@@ -411,11 +413,6 @@ pub plain_run : (depth n : ℕ) (votes : List Vote) → n ≤ 8 → (I : State �
 plain_run depth n votes few I start step calls =
     every_run depth n votes few (λ depth s call. false) (λ happens s. I s) (λ s call same answer. refl) (λ happens s call p input r sound cause move answer holds. step s (call_after depth s call) p input r sound move holds) start calls
 
--- some message in the list passes
-abbrev pub any_in : (Message → Bool) → List Message → Bool
-any_in test [] = false
-any_in test (m ∷ ms) = test m || any_in test ms
-
 -- what p gives to b, and what its input takes from a
 abbrev pub gives : (Message → Bool) → Effect → ℕ → Bool
 gives test Nothing b = false
@@ -431,16 +428,15 @@ takes test stops a = false
 takes test restarts a = false
 takes test (misses q m) a = eqb q a && test m
 
-pub any_snoc : (test : Message → Bool) (link : List Message) (m : Message) → any_in test (link ++ (m ∷ [])) ≡ (any_in test link || test m)
-any_snoc test [] m = grind arith
-any_snoc test (x ∷ xs) m = let more = any_snoc test xs m in grind arith
+pub any_snoc : (test : Message → Bool) (link : List Message) (m : Message) → list_any test (link ++ (m ∷ [])) ≡ (list_any test link || test m)
+any_snoc test link m = list_any-append test link (m ∷ []) ∙ ap (λ b. list_any test link || b) (or-false (test m))
 
-any_rest : (test : Message → Bool) (link : List Message) → any_in test (drop 1 link) ≡ true → any_in test link ≡ true
+any_rest : (test : Message → Bool) (link : List Message) → list_any test (drop 1 link) ≡ true → list_any test link ≡ true
 any_rest test [] e = e
 any_rest test (x ∷ xs) e = grind arith
 
-any_first : (test : Message → Bool) (link : List Message) (m : Message) → link ≡ m ∷ drop 1 link → any_in test link ≡ (test m || any_in test (drop 1 link))
-any_first test link m e = ap (any_in test) e
+any_first : (test : Message → Bool) (link : List Message) (m : Message) → link ≡ m ∷ drop 1 link → list_any test link ≡ (test m || list_any test (drop 1 link))
+any_first test link m e = ap (list_any test) e
 
 pub has_snoc : (c : ℕ) (journal : List ℕ) (d : ℕ) → has c (journal ++ (d ∷ [])) ≡ (has c journal || eqb d c)
 has_snoc c [] d = grind arith
@@ -457,12 +453,12 @@ Heads p (misses q m) a b link = a ≡ q → b ≡ p → link ≡ m ∷ drop 1 li
 
 -- one link, whichever it is
 module _ (test : Message → Bool) where
-  gave_any : (p : ℕ) (effect : Effect) (a b : ℕ) (link : List Message) → any_in test (gave p effect a b link) ≡ (any_in test link || (eqb p a && gives test effect b))
+  gave_any : (p : ℕ) (effect : Effect) (a b : ℕ) (link : List Message) → list_any test (gave p effect a b link) ≡ (list_any test link || (eqb p a && gives test effect b))
   gave_any p Nothing a b link = grind (arith, nat_tests)
   gave_any p (Write entry) a b link = grind (arith, nat_tests)
   gave_any p (Send q m) a b link = grind (arith, nat_tests, any_snoc test link m)
 
-  took_any : (p : ℕ) (input : Input) (a b : ℕ) (link : List Message) → any_in test (took p input a b link) ≡ true → any_in test link ≡ true
+  took_any : (p : ℕ) (input : Input) (a b : ℕ) (link : List Message) → list_any test (took p input a b link) ≡ true → list_any test link ≡ true
   took_any p begins a b link e = e
   took_any p steps a b link e = e
   took_any p (hears q m) a b link e = grind (arith, any_rest test link)
@@ -471,7 +467,7 @@ module _ (test : Message → Bool) where
   took_any p restarts a b link e = e
   took_any p (misses q m) a b link e = grind (arith, any_rest test link)
 
-  left_any : (p : ℕ) (input : Input) (a b : ℕ) (link : List Message) → Heads p input a b link → any_in test link ≡ true → (any_in test (took p input a b link) || (eqb p b && takes test input a)) ≡ true
+  left_any : (p : ℕ) (input : Input) (a b : ℕ) (link : List Message) → Heads p input a b link → list_any test link ≡ true → (list_any test (took p input a b link) || (eqb p b && takes test input a)) ≡ true
   left_any p begins a b link first e = grind arith
   left_any p steps a b link first e = grind arith
   left_any p (hears q m) a b link first e = grind (arith, nat_tests, first, any_first test link m)
@@ -502,30 +498,30 @@ took_away who row journal (misses q m) r b link rule = rw (ne_eqb q who.number r
 -- what a move makes of links
 module _ (s : State) (p : ℕ) (input : Input) (r : Response) (s' : State) (move : Move s p input r s') (test : Message → Bool) where
   -- a message on its way was there before, or is given by p now
-  pub there_before : (a b : ℕ) → any_in test (s'.links a b) ≡ true → (any_in test (s.links a b) ≡ true) ⊎ ((a ≡ p) × (gives test r.effect b ≡ true))
+  pub there_before : (a b : ℕ) → list_any test (s'.links a b) ≡ true → (list_any test (s.links a b) ≡ true) ⊎ ((a ≡ p) × (gives test r.effect b ≡ true))
   there_before a b e =
       let before = took_any test p input a b (gave p r.effect a b (s.links a b)) (rw (move.changes.link a b) at e) in
       ⊎_elim (λ old. inl old) (λ new. let parts = and_parts (eqb p a) (gives test r.effect b) new in inr (sym (eqb-true p a parts.0), parts.1))
-      (or_cases (any_in test (s.links a b)) (eqb p a && gives test r.effect b) (rw gave_any at before))
+      (or_cases (list_any test (s.links a b)) (eqb p a && gives test r.effect b) (rw gave_any at before))
 
   -- a message is still on its way, or p takes it now
-  pub still_there : (a b : ℕ) → any_in test (s.links a b) ≡ true → (any_in test (s'.links a b) ≡ true) ⊎ ((b ≡ p) × (takes test input a ≡ true))
+  pub still_there : (a b : ℕ) → list_any test (s.links a b) ≡ true → (list_any test (s'.links a b) ≡ true) ⊎ ((b ≡ p) × (takes test input a ≡ true))
   still_there a b e =
-      let now : any_in test (gave p r.effect a b (s.links a b)) ≡ true = rw gave_any (rw e refl) in
+      let now : list_any test (gave p r.effect a b (s.links a b)) ≡ true = rw gave_any (rw e refl) in
       let left = left_any test p input a b (gave p r.effect a b (s.links a b)) (heads s p input r a b move.rule move.first) now in
       ⊎_elim (λ still. inl (rw (move.changes.link a b) still)) (λ gone. let parts = and_parts (eqb p b) (takes test input a) gone in inr (sym (eqb-true p b parts.0), parts.1))
-      (or_cases (any_in test (took p input a b (gave p r.effect a b (s.links a b)))) (eqb p b && takes test input a) left)
+      (or_cases (list_any test (took p input a b (gave p r.effect a b (s.links a b)))) (eqb p b && takes test input a) left)
 
   -- what p gives is on its way
-  pub given_there : (b : ℕ) → gives test r.effect b ≡ true → any_in test (s'.links p b) ≡ true
+  pub given_there : (b : ℕ) → gives test r.effect b ≡ true → list_any test (s'.links p b) ≡ true
   given_there b e =
-      rw (move.changes.link p b, took_away (member_of s p) (row_of s p) (s.entries p) input r b (gave p r.effect p b (s.links p b)) move.rule, gave_any, eq-eqb p p refl, e) (or_right (any_in test (s.links p b)) true refl)
+      rw (move.changes.link p b, took_away (member_of s p) (row_of s p) (s.entries p) input r b (gave p r.effect p b (s.links p b)) move.rule, gave_any, eq-eqb p p refl, e) (or_right (list_any test (s.links p b)) true refl)
 
   -- what p takes was on its way
-  pub taken_there : (a : ℕ) → takes test input a ≡ true → any_in test (s.links a p) ≡ true
+  pub taken_there : (a : ℕ) → takes test input a ≡ true → list_any test (s.links a p) ≡ true
   taken_there a e = by_input_of input move.first e
     where
-      by_input_of : (i : Input) → First s p i → takes test i a ≡ true → any_in test (s.links a p) ≡ true
+      by_input_of : (i : Input) → First s p i → takes test i a ≡ true → list_any test (s.links a p) ≡ true
       by_input_of begins first e = grind arith
       by_input_of steps first e = grind arith
       by_input_of (hears q m) first e = let f = any_first test (s.links q p) m first in grind (arith, nat_tests)

@@ -3,7 +3,7 @@ use Rattle.std.proofs.Common.{◌≡◌, ℕ, ◌<◌, ◌≤◌, Bool, true, fa
 use Rattle.std.proofs.lemmas.Bool.{and_cases, both_ways, cases_lt, lt-ltb, not-false, or_parts, true≢false}
 use Rattle.std.proofs.lemmas.Bool.Decides.{nat_tests}
 use Rattle.std.specs.Option.{ok_or}
-use Rattle.std.specs.List.{slice_get}
+use Rattle.std.specs.List.{list_any, slice_get}
 use Rattle.journals.specs.CodeFacts.{coded}
 use Rattle.network.specs.Links.{Links, is_link, look_answer}
 use Rattle.network.specs.Refusals.{refused}
@@ -41,7 +41,7 @@ use Rattle.promises.specs.Runs.{new, taken}
 use Rattle.promises.proofs.Between.{Turn, sound_run, turns, was_there}
 use Rattle.promises.proofs.Each.{AllEach, each_run, me}
 use Rattle.promises.proofs.Limits.{few_entries}
-use Rattle.promises.proofs.Moves.{Input, Rule, Sound, any_in, expires, expiry_rule, gives, ok_answered, step_rule, steps}
+use Rattle.promises.proofs.Moves.{Input, Rule, Sound, expires, expiry_rule, gives, ok_answered, step_rule, steps}
 use Rattle.promises.proofs.Quiet.{some_below, all_empty, link_between}
 use Rattle.promises.proofs.Spending.{Aimed, Spends, is_ask, one, sent_by, spends_moves, spent}
 
@@ -50,7 +50,7 @@ asking m = eqb (is_ask m) 1
 
 -- Asks go upwards
 abbrev pub Upwards : State → Type 0
-Upwards s = (a b : ℕ) → any_in asking (s.links a b) ≡ true → a < b
+Upwards s = (a b : ℕ) → list_any asking (s.links a b) ≡ true → a < b
 
 given_upwards : (n p b : ℕ) (effect : Effect) → Aimed n p effect → gives asking effect b ≡ true → p < b
 given_upwards n p b Nothing aimed e = absurd (true≢false (sym e))

@@ -1,5 +1,6 @@
 -- Whom an announcement has passed: they have the order before them, or have heeded it.
 use Rattle.std.proofs.Common.{◌≡◌, ℕ, ◌<◌, ◌≤◌, Bool, true, false, not, ◌&&◌, ◌||◌, ◌≢◌, ◌⊎◌, List, Some, Option, sym, refl, ◌∙◌, inl, inr, ⊎_elim, arith}
+use Rattle.std.specs.List.{list_any}
 use Rattle.std.proofs.lemmas.Bool.{and_parts, and_from, both_ways, false≢true, cases_eq, not-true, or_cases, or_left, or_right}
 use Rattle.std.proofs.lemmas.Bool.Decides.{nat_tests}
 use Rattle.journals.specs.Codes.{code_of}
@@ -22,7 +23,7 @@ use Rattle.promises.proofs.Between.{Turn, acts, had, is_there, now_there, own_or
 use Rattle.promises.proofs.Did.{ended, heeds, obeys, orders, passed_on, passes, posts, settles, stays_settled, wrote}
 use Rattle.promises.proofs.Each.{me}
 use Rattle.promises.proofs.Journal.{is}
-use Rattle.promises.proofs.Moves.{Cause, Input, begins, steps, hears, expires, stops, restarts, misses, Rule, any_in, gives, takes, written}
+use Rattle.promises.proofs.Moves.{Cause, Input, begins, steps, hears, expires, stops, restarts, misses, Rule, gives, takes, written}
 use Rattle.promises.proofs.Quiet.{all_empty}
 use Rattle.promises.proofs.Wanted.{row_of_new}
 
@@ -32,14 +33,14 @@ passed s w d over b = over || (runs (row_of s w).status && passes d b (row_of s 
 
 -- for one announcer and one decision
 abbrev pub Spread : ℕ → ℕ → Decision → Bool → State → Type 0
-Spread n w d over s = (b : ℕ) → b < n → b ≢ w → passed s w d over b ≡ true → (any_in (orders d) (s.links w b) || settles d (row_of s b) (s.entries b)) ≡ true
+Spread n w d over s = (b : ℕ) → b < n → b ≢ w → passed s w d over b ≡ true → (list_any (orders d) (s.links w b) || settles d (row_of s b) (s.entries b)) ≡ true
 
 spread_new : (n : ℕ) (votes : List Vote) (w : ℕ) (d : Decision) → Spread n w d false (new n votes)
 spread_new n votes w d b known other e = absurd (grind (arith, row_of_new n votes w))
 
 module _ {n : ℕ} {votes : List Vote} {s s' : State} {p : ℕ} {input : Input} {r : Response} (t : Turn n votes s s' p input r) (w : ℕ) (d : Decision) where
   -- once settled, or ordered, b stays so
-  spread_still : (b : ℕ) → b < n → (any_in (orders d) (s.links w b) || settles d (row_of s b) (s.entries b)) ≡ true → (any_in (orders d) (s'.links w b) || settles d (row_of s' b) (s'.entries b)) ≡ true
+  spread_still : (b : ℕ) → b < n → (list_any (orders d) (s.links w b) || settles d (row_of s b) (s.entries b)) ≡ true → (list_any (orders d) (s'.links w b) || settles d (row_of s' b) (s'.entries b)) ≡ true
   spread_still b known e = ⊎_elim ordered (λ settled. or_right _ _ (still settled)) (or_cases _ _ e)
     where
       still : settles d (row_of s b) (s.entries b) ≡ true → settles d (row_of s' b) (s'.entries b) ≡ true
@@ -61,28 +62,28 @@ module _ {n : ℕ} {votes : List Vote} {s s' : State} {p : ℕ} {input : Input} 
       after : b ≡ p → takes (orders d) input w ≡ true → settles d (row_of s' b) (s'.entries b) ≡ true
       after own gone = rw (own, t.move.changes.own_row, t.move.changes.own_entries) (heeded input (acts t).by_rule gone)
 
-      ordered : any_in (orders d) (s.links w b) ≡ true → (any_in (orders d) (s'.links w b) || settles d (row_of s' b) (s'.entries b)) ≡ true
+      ordered : list_any (orders d) (s.links w b) ≡ true → (list_any (orders d) (s'.links w b) || settles d (row_of s' b) (s'.entries b)) ≡ true
       ordered there =
           ⊎_elim (λ on_way. or_left _ _ on_way) (λ gone. or_right _ _ (after gone.0 gone.1)) (is_there t (orders d) w b there)
 
   spread_then : (over more : Bool) → (more ≡ true → (p ≡ w) × (wrote (code_of (obeyed d)) r.effect ≡ true) × (runs (row_of s p).status ≡ true)) → Spread n w d over s → Spread n w d (over || more) s'
   spread_then over more obeyed_now spread b known other e = ⊎_elim (λ o. ⊎_elim before ends (or_cases over more o)) (λ now. let parts = and_parts _ _ now in goes_on parts.0 parts.1 (own_or_other t w)) (or_cases _ _ e)
     where
-      before : over ≡ true → (any_in (orders d) (s'.links w b) || settles d (row_of s' b) (s'.entries b)) ≡ true
+      before : over ≡ true → (list_any (orders d) (s'.links w b) || settles d (row_of s' b) (s'.entries b)) ≡ true
       before o = spread_still b known (spread b known other (or_left _ _ o))
 
-      already : runs (row_of s w).status ≡ true → passes d b (row_of s w).stage ≡ true → (any_in (orders d) (s'.links w b) || settles d (row_of s' b) (s'.entries b)) ≡ true
+      already : runs (row_of s w).status ≡ true → passes d b (row_of s w).stage ≡ true → (list_any (orders d) (s'.links w b) || settles d (row_of s' b) (s'.entries b)) ≡ true
       already running pass = spread_still b known (spread b known other (or_right _ _ (and_from _ _ running pass)))
 
-      ends : more ≡ true → (any_in (orders d) (s'.links w b) || settles d (row_of s' b) (s'.entries b)) ≡ true
+      ends : more ≡ true → (list_any (orders d) (s'.links w b) || settles d (row_of s' b) (s'.entries b)) ≡ true
       ends m =
           let now = obeyed_now m in
           already (rw now.0 at now.2) (rw now.0 at (ended (acts t) d b (obeys (acts t) d now.1 now.2)))
 
-      goes_on : runs (row_of s' w).status ≡ true → passes d b (row_of s' w).stage ≡ true → ((w ≡ p) × (row_of s' w ≡ r.row)) ⊎ ((w ≢ p) × (row_of s' w ≡ row_of s w)) → (any_in (orders d) (s'.links w b) || settles d (row_of s' b) (s'.entries b)) ≡ true
+      goes_on : runs (row_of s' w).status ≡ true → passes d b (row_of s' w).stage ≡ true → ((w ≡ p) × (row_of s' w ≡ r.row)) ⊎ ((w ≢ p) × (row_of s' w ≡ row_of s w)) → (list_any (orders d) (s'.links w b) || settles d (row_of s' b) (s'.entries b)) ≡ true
       goes_on running pass (inr (apart, row)) = already (rw row at running) (rw row at pass)
       goes_on running pass (inl (own, row)) =
-          let sent : gives (orders d) r.effect b ≡ true → any_in (orders d) (s'.links w b) ≡ true = λ new. rw own (now_there t (orders d) b new) in
+          let sent : gives (orders d) r.effect b ≡ true → list_any (orders d) (s'.links w b) ≡ true = λ new. rw own (now_there t (orders d) b new) in
           ⊎_elim (λ (old : passes d b (row_of s p).stage ≡ true). already (runs_before t w running) (rw own old)) (λ new. or_left _ _ (sent new))
           (or_cases _ _ (passed_on (acts t) d b (λ e. other (e ∙ sym own)) known (rw row at running) (rw row at pass)))
 
@@ -98,7 +99,7 @@ posted_then {s} {s'} {p} {r} t posted w b known other e =
     ⊎_elim (λ eight. ⊎_elim (λ old. then false (λ no_more. absurd (false≢true no_more)) (or_left _ _ (or_left _ _ old))) (λ new. then true (λ _. (sym new.0, new.1, (posts (acts t) new.1).0)) (or_left _ _ (or_right _ _ refl))) (had t 8 w eight))
     (λ now. then false (λ no_more. absurd (false≢true no_more)) (or_right _ _ now)) (or_cases _ _ e)
   where
-    then : (more : Bool) → (more ≡ true → (p ≡ w) × (wrote 8 r.effect ≡ true) × (runs (row_of s p).status ≡ true)) → passed s' w Post (has 8 (s.entries w) || more) b ≡ true → (any_in (orders Post) (s'.links w b) || settles Post (row_of s' b) (s'.entries b)) ≡ true
+    then : (more : Bool) → (more ≡ true → (p ≡ w) × (wrote 8 r.effect ≡ true) × (runs (row_of s p).status ≡ true)) → passed s' w Post (has 8 (s.entries w) || more) b ≡ true → (list_any (orders Post) (s'.links w b) || settles Post (row_of s' b) (s'.entries b)) ≡ true
     then more new e = spread_then t w Post (has 8 (s.entries w)) more new (posted w) b known other e
 
 -- a step that obeys is one that ends an announcement

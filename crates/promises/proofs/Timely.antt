@@ -1,5 +1,6 @@
 -- While every expiry is on time: who drops leaves no post alive.
 use Rattle.std.proofs.Common.{◌≡◌, ℕ, ◌<◌, ◌≤◌, Bool, true, false, not, ◌&&◌, ◌||◌, eqb, ◌≢◌, ◌⊎◌, List, [], ◌∷◌, is_some as option_is_some, Option, sym, ap, ◌∙◌, subst, inl, inr, ⊎_elim, arith}
+use Rattle.std.specs.List.{list_any}
 use Rattle.std.proofs.lemmas.Bool.{and_parts, both_ways, cases_Bool, cases_eq, cases_order, false≢true, not-true, or_cases, or_left, or_right}
 use Rattle.std.proofs.lemmas.Bool.Decides.{nat_tests}
 use Rattle.network.specs.declared.message.Decision.{Decision}
@@ -19,7 +20,7 @@ use Rattle.promises.proofs.Between.{Turn, acts, had, heard_there, holder_knows, 
 use Rattle.promises.proofs.Did.{all_ayes, all_in, announced, carries, denies, disputes, dropped_holds, drops, drops_heard, drops_leads, drops_noticing, expiring, expiry_comes, gave_decision, gave_denial, hearer, hears_that, holds_still, keeps_round, leads_before, leads_on, new_holder, new_noticed, new_replied, notices, obeys, orders, posts, reaches_post, readies, receives, recovers, replies, settles, source, still_runs, wrote, wrote_one}
 use Rattle.promises.proofs.Each.{AllEach, Each, me}
 use Rattle.promises.proofs.Journal.{closed, is, knows, promised}
-use Rattle.promises.proofs.Moves.{Input, any_in, taken_there}
+use Rattle.promises.proofs.Moves.{Input, taken_there}
 use Rattle.promises.proofs.Rounds.{Rounds, small_round}
 use Rattle.promises.proofs.Sets.{in_empty}
 use Rattle.promises.proofs.Shape.{lower_left}
@@ -36,7 +37,7 @@ pub record Holder (n : ℕ) (s : State) : Type 0 where
 -- a post is alive where a running ledger holds it, or a message that carries it is on its way to one
 pub data Alive (n : ℕ) (s : State) : Type 0 where
   holder : Holder n s → Alive n s
-  carrier : (a b : ℕ) → a < n → b < n → runs (row_of s b).status ≡ true → any_in (carries Post) (s.links a b) ≡ true → Alive n s
+  carrier : (a b : ℕ) → a < n → b < n → runs (row_of s b).status ≡ true → list_any (carries Post) (s.links a b) ≡ true → Alive n s
 
 -- one above the leader l that knows of the post, and that l cannot pass over
 pub record Witness (n : ℕ) (s : State) (l : ℕ) (row : Row) : Type 0 where
@@ -45,7 +46,7 @@ pub record Witness (n : ℕ) (s : State) (l : ℕ) (row : Row) : Type 0 where
   pub known : it < n
   pub unnoticed : is_in row.noticed it ≡ false
   pub unreplied : is_in row.replied it ≡ false
-  pub no_denial : any_in (denies row.round) (s.links it l) ≡ false
+  pub no_denial : list_any (denies row.round) (s.links it l) ≡ false
   pub knower : knows Post (s.entries it) ≡ true
 
 -- the coordinator can no longer come to a post
@@ -91,7 +92,7 @@ denies_replies k m e = grind (arith, nat_tests)
 orders_carries : (d : Decision) (m : Message) → orders d m ≡ true → carries d m ≡ true
 orders_carries d m e = grind arith
 
-any_weaker : (f g : Message → Bool) → ((m : Message) → f m ≡ true → g m ≡ true) → (link : List Message) → any_in f link ≡ true → any_in g link ≡ true
+any_weaker : (f g : Message → Bool) → ((m : Message) → f m ≡ true → g m ≡ true) → (link : List Message) → list_any f link ≡ true → list_any g link ≡ true
 any_weaker f g more [] e = e
 any_weaker f g more (m ∷ ms) e = ⊎_elim (λ here. or_left _ _ (more m here)) (λ there. or_right _ _ (any_weaker f g more ms there)) (or_cases _ _ e)
 
@@ -159,7 +160,7 @@ module _ {n : ℕ} {votes : List Vote} {s s' : State} {p : ℕ} {input : Input} 
       given : x.it ≡ p → (runs (row_of s p).status ≡ true) × (option_is_some (held (row_of s p).stage) ≡ false) → ⊥
       given same (running, none) = is_some Post (held (row_of s p).stage) (knower_holds Post (me n votes p) (row_of s p) (s.entries p) (mover t) running (rw same at x.knower)) none
 
-      denied : any_in (denies row.round) (s'.links x.it l) ≡ true → ⊥
+      denied : list_any (denies row.round) (s'.links x.it l) ≡ true → ⊥
       denied there = ⊎_elim (λ old. both_ways _ x.no_denial old) (λ new. given new.0 (gave_denial (acts t) row.round l new.1)) (was_there t (denies row.round) x.it l there)
 
   module _ (running : runs r.row.status ≡ true) (lead : leads r.row.stage ≡ true) (alive : Alive n s) where
@@ -196,7 +197,7 @@ module _ {n : ℕ} {votes : List Vote} {s s' : State} {p : ℕ} {input : Input} 
       lower_now : h.it < p → ⊥
       lower_now low = unnoticed_now (rw anew.2 (all_in (with_ledger (row_of s p).noticed (source input)) 0 p anew.3 h.it (omega arith) low))
 
-      denied_now : any_in (denies r.row.round) (s'.links h.it p) ≡ true → ⊥
+      denied_now : list_any (denies r.row.round) (s'.links h.it p) ≡ true → ⊥
       denied_now there =
           ⊎_elim (λ old. let late = rounds.replied_to h.it p r.row.round runs_first (any_weaker (denies r.row.round) (replies r.row.round) (denies_replies r.row.round) (s.links h.it p) old) in omega (arith, late, anew.0, small_round t)) (λ new. other new.0)
           (was_there t (denies r.row.round) h.it p there)

@@ -1,5 +1,6 @@
 -- A post comes only from the coordinator, when every vote is yes.
 use Rattle.std.proofs.Common.{◌≡◌, ℕ, ◌<◌, ◌≤◌, true, ◌≢◌, ◌⊎◌, List, get_or, replicate, sym, refl, inl, inr, ⊎_elim, arith}
+use Rattle.std.specs.List.{list_any}
 use Rattle.std.proofs.lemmas.List.{get_or_past, get_or-replicate}
 use Rattle.std.proofs.lemmas.Bool.{and_parts, cases_eq, cases_lt, or_cases, or_right}
 use Rattle.journals.specs.Codes.{code_of}
@@ -22,12 +23,12 @@ use Rattle.promises.proofs.Did.{all_ayes, carries, gave_decision, gave_vote, new
 use Rattle.promises.proofs.Each.{me}
 use Rattle.promises.proofs.Sets.{in_empty}
 use Rattle.promises.proofs.Journal.{is, knows, promised}
-use Rattle.promises.proofs.Moves.{Input, any_in, taken_there}
+use Rattle.promises.proofs.Moves.{Input, taken_there}
 
 -- what is behind a decision, a vote and a post
 pub record Wanted (n : ℕ) (votes : List Vote) (s : State) : Type 0 where
-  pub carried : (a b : ℕ) (d : Decision) → any_in (carries d) (s.links a b) ≡ true → knows d (s.entries a) ≡ true
-  pub voted : (a b : ℕ) (v : Vote) → any_in (votes_as v) (s.links a b) ≡ true → (get_or votes a Yes ≡ v) × (has (code_of (ready v)) (s.entries a) ≡ true)
+  pub carried : (a b : ℕ) (d : Decision) → list_any (carries d) (s.links a b) ≡ true → knows d (s.entries a) ≡ true
+  pub voted : (a b : ℕ) (v : Vote) → list_any (votes_as v) (s.links a b) ≡ true → (get_or votes a Yes ≡ v) × (has (code_of (ready v)) (s.entries a) ≡ true)
   pub heard : (a q : ℕ) → is_in (row_of s a).ayes q ≡ true → (get_or votes q Yes ≡ Yes) × (has 2 (s.entries q) ≡ true)
   pub closed : (a : ℕ) → has 8 (s.entries a) ≡ true → knows Post (s.entries a) ≡ true
   pub traced : (a : ℕ) → knows Post (s.entries a) ≡ true → has 4 (s.entries 0) ≡ true
@@ -48,13 +49,13 @@ module _ (n : ℕ) (votes : List Vote) where
   }
 
 module _ {n : ℕ} {votes : List Vote} {s s' : State} {p : ℕ} {input : Input} {r : Response} (t : Turn n votes s s' p input r) (w : Wanted n votes s) where
-  carried_then : (a b : ℕ) (d : Decision) → any_in (carries d) (s'.links a b) ≡ true → knows d (s'.entries a) ≡ true
+  carried_then : (a b : ℕ) (d : Decision) → list_any (carries d) (s'.links a b) ≡ true → knows d (s'.entries a) ≡ true
   carried_then a b d e = knows_then t d a (⊎_elim (λ old. w.carried a b d old) (λ new. given new.0 (and_parts _ _ (gave_decision (acts t) d b new.1))) (was_there t (carries d) a b e))
     where
       given : a ≡ p → (runs (row_of s p).status ≡ true) × (is d (held (row_of s p).stage) ≡ true) → knows d (s.entries a) ≡ true
       given same holds = rw same (holder_knows d (me n votes p) (row_of s p) (s.entries p) (mover t) holds.0 holds.1)
 
-  voted_then : (a b : ℕ) (v : Vote) → any_in (votes_as v) (s'.links a b) ≡ true → (get_or votes a Yes ≡ v) × (has (code_of (ready v)) (s'.entries a) ≡ true)
+  voted_then : (a b : ℕ) (v : Vote) → list_any (votes_as v) (s'.links a b) ≡ true → (get_or votes a Yes ≡ v) × (has (code_of (ready v)) (s'.entries a) ≡ true)
   voted_then a b v e =
       ⊎_elim (λ old. let h = w.voted a b v old in (h.0, has_then t (code_of (ready v)) a h.1)) (λ new. given new.0 (gave_vote (acts t) v b new.1)) (was_there t (votes_as v) a b e)
     where
