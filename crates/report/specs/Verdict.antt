@@ -1,9 +1,9 @@
 -- The text that tells what is on a tape. Every line ends in byte 10.
-use Rattle.std.specs.Prelude.{ℕ, zero, suc, ◌+◌, List, [], ◌∷◌, ◌++◌, length, Some, None, Ok, Err, codes, decimal, Option, Result}
+use Rattle.std.specs.Prelude.{ℕ, zero, suc, ◌+◌, List, [], ◌∷◌, ◌++◌, length, Ok, Err, codes, decimal, Result}
 use Rattle.tape.specs.Bytes.{read_tape, torn}
 use Rattle.journals.specs.Calls.{Entries}
 use Rattle.tape.specs.Records.{codes_of}
-use Rattle.journals.specs.Refusals.{number_of, place_of}
+use Rattle.journals.specs.Refusals.{fault_text}
 use Rattle.journals.specs.declared.fault.JournalsFault.{JournalsFault}
 use Rattle.tape.specs.declared.records.Record.{Record}
 use Rattle.report.specs.Letters.{letters}
@@ -21,13 +21,9 @@ ledger_lines entries (suc p) = ledger_lines entries p ++ ledger_line entries p
 abbrev pub total_line : ℕ → List ℕ
 total_line n = codes "T " ++ (decimal n ++ (10 ∷ []))
 
-abbrev pub place_part : Option ℕ → List ℕ
-place_part None = []
-place_part (Some place) = 32 ∷ decimal place
-
 -- the refusal's number, the layer J, and the place
 abbrev pub fault_line : JournalsFault → List ℕ
-fault_line fault = decimal (number_of fault.refusal) ++ (codes " J" ++ (place_part (place_of fault.refusal) ++ (10 ∷ [])))
+fault_line fault = fault_text fault ++ (10 ∷ [])
 
 abbrev pub told : Result (List Record) JournalsFault → List ℕ
 told (Ok rs) = ledger_lines (λ p. codes_of p rs) 8 ++ total_line (length rs)

@@ -3,6 +3,7 @@ ghost use Rattle.std.specs.Prelude.{◌≡◌, ◌<◌, true, ◌++◌, string_b
 ghost use Rattle.journals.specs.Codes.{is_code};
 ghost use Rattle.report.specs.Letters.{letter, letters};
 
+use journals::codes::codes;
 use journals::set::Journals;
 use std::alloc::AllocError;
 
@@ -22,13 +23,11 @@ pub fn push_letters<J: Journals>(
 ) -> Result<(), AllocError>
     ensures { OnOk result (string_bytes out.new ≡ string_bytes out.old ++ letters (J.entries journals.now ledger)) }
 {
-    let mut place = 0;
-    while let Ok(code) = journals.read(ledger, place) {
-        out.push(letter_of(code))?;
-        place += 1;
+    if codes(journals, ledger).next().is_none() {
+        return out.push('-');
     }
-    if place == 0 {
-        out.push('-')?;
+    for code in codes(journals, ledger) {
+        out.push(letter_of(code))?;
     }
     Ok(())
 }

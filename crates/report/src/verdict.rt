@@ -1,12 +1,10 @@
 // What is printed of a tape: every ledger's entries, or where it is torn.
 ghost use Rattle.std.specs.Prelude.{◌≡◌, ◌<◌, ◌++◌, length, IfOk, string_bytes, OnOk};
 ghost use Rattle.tape.specs.Tape.{entries_of, records_of};
-ghost use Rattle.report.specs.Verdict.{fault_line, ledger_line, ledger_lines, total_line, verdict};
+ghost use Rattle.report.specs.Verdict.{ledger_line, ledger_lines, total_line, verdict};
 
 use crate::letters::push_letters;
-use journals::fault::JournalsFault;
 use journals::set::Journals;
-use ledgers::fault::Fault;
 use std::alloc::{AllocError, Global};
 use tape::Tape;
 
@@ -16,18 +14,7 @@ pub fn tape_verdict(heap: Global, bytes: &[u8]) -> Result<String, AllocError>
 {
     match Tape::from_bytes(bytes) {
         Ok(tape) => whole_tape(heap, &tape),
-        Err(fault) => torn_tape(heap, &fault),
-    }
-}
-
-fn torn_tape(heap: Global, fault: &JournalsFault) -> Result<String, AllocError>
-    ensures { IfOk result (λ text. string_bytes text ≡ fault_line fault.now) }
-{
-    let number = fault.number();
-    let layer = fault.layer();
-    match fault.place() {
-        Some(place) => format!(in heap; "{number} {layer} {place}\n"),
-        None => format!(in heap; "{number} {layer}\n"),
+        Err(fault) => format!(in heap; "{fault}\n"),
     }
 }
 
@@ -38,9 +25,7 @@ fn whole_tape(heap: Global, tape: &Tape) -> Result<String, AllocError>
     for ledger in 0..8 {
         push_ledger(&mut out, tape, ledger)?;
     }
-    let records = tape.len();
-    let total = format!(in heap; "T {records}\n")?;
-    out.push_str(total.as_str())?;
+    writeln!(out, "T {}", tape.len())?;
     Ok(out)
 }
 
@@ -49,10 +34,7 @@ fn push_ledger<J: Journals>(out: &mut String, journals: &J, ledger: u8) -> Resul
     requires { ledger < 10 }
     ensures { OnOk result (string_bytes out.new ≡ string_bytes out.old ++ ledger_line (J.entries journals.now) ledger) }
 {
-    out.push_str("L ")?;
-    out.push((b'0' + ledger) as char)?;
-    out.push(' ')?;
+    write!(out, "L {ledger} ")?;
     push_letters(out, journals, ledger)?;
-    out.push('\n')?;
-    Ok(())
+    out.push('\n')
 }

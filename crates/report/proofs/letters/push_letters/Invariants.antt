@@ -1,12 +1,15 @@
-use Rattle.std.proofs.Common.{◌≡◌, ◌-◌, ◌≤◌, ◌++◌, map, length, take, string_bytes}
+use Rattle.std.proofs.Common.{◌≡◌, true, ◌++◌, map, string_bytes}
+use Rattle.std.specs.List.{AllByRecursion}
+use Rattle.journals.specs.Calls.{left_from}
+use Rattle.journals.specs.Codes.{is_code}
 use Rattle.report.specs.Letters.{letter}
 use Rattle.report.proofs.letters.push_letters.Given as goal
 
--- the letters of the entries so far
+-- what is left to add
 abbrev pub invariant-loop-code : goal.invariant-loop-code
 invariant-loop-code g l =
-    (string_bytes l.out ≡ string_bytes l.initial.out ++ map letter (take l.place (g.J.Journals.entries l.journals l.ledger)))
-    × (l.place ≤ length (g.J.Journals.entries l.journals l.ledger))
-
-abbrev pub decreases-loop-code : goal.decreases-loop-code
-decreases-loop-code g l = length (g.J.Journals.entries l.journals l.ledger) - l.place
+    let left = left_from (g.J.Journals.entries l.code-iterator.journals.now) l.code-iterator.ledger l.code-iterator.place in
+    record {
+      added : string_bytes l.out ++ map letter left ≡ string_bytes l.initial.out ++ map letter (g.J.Journals.entries l.journals l.ledger);
+      known : AllByRecursion (λ c. is_code c ≡ true) left;
+    }
