@@ -2,11 +2,11 @@
 ghost use Rattle.std.specs.Prelude.{◌≡◌, ◌≤◌, length};
 
 use journals::set::Journals;
+use ledgers::ledger::LEDGERS;
 use network::link::Network;
 use network::message::Vote;
 use rules::row::Row;
 
-mod answers;
 mod blank;
 mod calls;
 mod opening;
@@ -23,8 +23,9 @@ pub struct Floor<N: Network, J: Journals> {
     journals: J,
     // How many ledgers take part; none where the floor is closed.
     ledgers: u8,
-    votes: [Vote; 8],
-    rows: [Row; 8],
+    // Beside the rows, as the state that the contracts read has two lists.
+    votes: [Vote; LEDGERS],
+    rows: [Row; LEDGERS],
     // The messages sent since the opening.
     sent: u64,
     ghost few: { ledgers ≤ 8 },

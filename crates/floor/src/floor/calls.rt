@@ -1,13 +1,12 @@
 // The calls that carry a batch.
-ghost use Rattle.std.specs.Prelude.{◌≡◌, ◌<◌, is_err, OnOk};
+ghost use Rattle.std.specs.Prelude.{◌≡◌, is_err};
 ghost use Rattle.floor.specs.State.{state};
 ghost use Rattle.protocol.specs.Calls.{begin_after, begin_answer, do_after, do_answer, deliver_after, deliver_answer, expire_after, expire_answer, restart_after, restart_answer, step_after, step_answer, stop_after, stop_answer};
 ghost use Rattle.protocol.specs.Plans.{call_after, call_answer};
 ghost use Rattle.protocol.specs.Laws.{LawfulCall};
 
 use super::Floor;
-use super::answers::{done, met, recovered};
-use super::reads::{fresh, runs};
+use super::reads::fresh;
 use journals::entry::Entry;
 use journals::fault::NO_LEDGER;
 use journals::set::Journals;
@@ -27,14 +26,11 @@ impl<N: Network, J: Journals> Floor<N, J> {
         other: u8,
         plan: Result<Response, FloorRefusal>,
     ) -> Result<(), FloorFault>
-        requires { OnOk plan (ledger < 8) }
         ensures answer { result ≡ do_answer N.DEPTH (state self.old) ledger other plan }
         ensures after { state self.new ≡ do_after N.DEPTH (state self.old) ledger plan }
     {
-        match plan {
-            Ok(response) => self.perform(ledger, response),
-            Err(refusal) => Err(FloorFault::Refused(refusal, ledger, other)),
-        }
+        let response = plan.map_err(|refusal| FloorFault::Refused(refusal, ledger, other))?;
+        self.perform(ledger, response)
     }
 
     // The coordinator begins the batch.
@@ -78,14 +74,14 @@ impl<N: Network, J: Journals> Floor<N, J> {
         ensures answer { result ≡ deliver_answer N.DEPTH (state self.old) sender receiver }
         ensures after { state self.new ≡ deliver_after N.DEPTH (state self.old) sender receiver }
     {
-        self.check_pair(sender, receiver)?;
+        self.check_pair(sender, receiver)
+            .map_err(|refusal| FloorFault::Refused(refusal, sender, receiver))?;
         let message = self.network.look(sender, receiver)?;
-        let row = self.row_of(receiver);
-        if !runs(row.status) {
+        let Ok(row) = self.running(receiver) else {
             let _ = self.network.take(sender, receiver);
             return Ok(Delivery::Discarded);
-        }
-        let disputed = self.has(receiver, Entry::Dispute.code());
+        };
+        let disputed = self.has(receiver, Entry::Dispute);
         let response = self
             .member_of(receiver)
             .on_message(row, sender, message, disputed);
@@ -100,17 +96,15 @@ impl<N: Network, J: Journals> Floor<N, J> {
         ensures answer { result ≡ restart_answer N.DEPTH (state self.old) ledger }
         ensures after { state self.new ≡ restart_after N.DEPTH (state self.old) ledger }
     {
-        match self.restart_of(ledger) {
-            Ok(found) => {
-                let response = Response {
-                    row: fresh(Status::Restarted),
-                    effect: found.effect,
-                };
-                self.perform(ledger, response)?;
-                Ok(found.recovery)
-            }
-            Err(refusal) => Err(FloorFault::Refused(refusal, ledger, NO_LEDGER)),
-        }
+        let found = self
+            .restart_of(ledger)
+            .map_err(|refusal| FloorFault::Refused(refusal, ledger, NO_LEDGER))?;
+        let response = Response {
+            row: fresh(Status::Restarted),
+            effect: found.effect,
+        };
+        self.perform(ledger, response)?;
+        Ok(found.recovery)
     }
 
     fn dispatch(&mut self, call: Call) -> Result<Answer, FloorFault>
@@ -118,12 +112,14 @@ impl<N: Network, J: Journals> Floor<N, J> {
         ensures after { state self.new ≡ call_after N.DEPTH (state self.old) call }
     {
         match call {
-            Call::Begin => done(self.begin()),
-            Call::Step(ledger) => done(self.step(ledger)),
-            Call::Deliver { sender, receiver } => met(self.deliver(sender, receiver)),
-            Call::Expire { ledger, silent } => done(self.expire(ledger, silent)),
-            Call::Stop(ledger) => done(self.stop(ledger)),
-            Call::Restart(ledger) => recovered(self.restart(ledger)),
+            Call::Begin => self.begin().map(|()| Answer::Done),
+            Call::Step(ledger) => self.step(ledger).map(|()| Answer::Done),
+            Call::Deliver { sender, receiver } => {
+                self.deliver(sender, receiver).map(Answer::Message)
+            }
+            Call::Expire { ledger, silent } => self.expire(ledger, silent).map(|()| Answer::Done),
+            Call::Stop(ledger) => self.stop(ledger).map(|()| Answer::Done),
+            Call::Restart(ledger) => self.restart(ledger).map(Answer::Recovered),
         }
     }
 

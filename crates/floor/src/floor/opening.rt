@@ -10,20 +10,18 @@ use super::reads::fresh;
 use crate::opening::Opening;
 use journals::fault::NO_LEDGER;
 use journals::set::Journals;
+use ledgers::ledger::LEDGERS;
 use network::link::Network;
 use network::message::Vote;
 use protocol::fault::{FloorFault, FloorRefusal};
 use rules::stage::Status;
+use std::array;
 
 // A ledger past the last is as good as one that votes yes.
 fn number_at(votes: &[u8], ledger: usize) -> u8
     ensures { result ≡ number_at votes.now ledger }
 {
-    if ledger < votes.len() {
-        votes[ledger]
-    } else {
-        1
-    }
+    votes.get(ledger).copied().unwrap_or(1)
 }
 
 fn is_vote(number: u8) -> bool
@@ -35,14 +33,7 @@ fn is_vote(number: u8) -> bool
 fn votes_fit(votes: &[u8]) -> bool
     ensures { result ≡ votes_fit votes.now }
 {
-    let mut fit = true;
-    let mut ledger = 0;
-    while ledger < 8 {
-        let number = number_at(votes, ledger);
-        fit = fit & is_vote(number);
-        ledger += 1;
-    }
-    fit
+    (0..8).all(|ledger| is_vote(number_at(votes, ledger)))
 }
 
 fn vote_at(votes: &[u8], ledger: usize) -> Vote
@@ -55,19 +46,10 @@ fn vote_at(votes: &[u8], ledger: usize) -> Vote
     }
 }
 
-fn votes_of(votes: &[u8]) -> [Vote; 8]
+fn votes_of(votes: &[u8]) -> [Vote; LEDGERS]
     ensures { result ≡ votes_of votes.now }
 {
-    [
-        vote_at(votes, 0),
-        vote_at(votes, 1),
-        vote_at(votes, 2),
-        vote_at(votes, 3),
-        vote_at(votes, 4),
-        vote_at(votes, 5),
-        vote_at(votes, 6),
-        vote_at(votes, 7),
-    ]
+    array::from_fn(|ledger| vote_at(votes, ledger))
 }
 
 fn check_opening<N: Network, J: Journals>(
@@ -79,7 +61,7 @@ fn check_opening<N: Network, J: Journals>(
     ensures answer { result ≡ open_answer (N.links network.now) (J.entries journals.now) ledgers votes.now }
     ensures few { OnOk result (ledgers ≤ 8) }
 {
-    if ledgers < 2 || ledgers > 8 || votes.len() != ledgers as usize || !votes_fit(votes) {
+    if !(2..=8).contains(&ledgers) || votes.len() != ledgers as usize || !votes_fit(votes) {
         return Err(FloorFault::Refused(FloorRefusal::MisreadOpening, NO_LEDGER, NO_LEDGER));
     }
     if !no_message(network) || !no_entry(journals) {
@@ -100,15 +82,15 @@ impl<N: Network, J: Journals> Floor<N, J> {
                 journals,
                 ledgers,
                 votes: votes_of(votes),
-                rows: [fresh(Status::Running); 8],
+                rows: [fresh(Status::Running); LEDGERS],
                 sent: 0,
             },
             Err(_) => Floor {
                 network,
                 journals,
                 ledgers: 0,
-                votes: [Vote::Yes; 8],
-                rows: [fresh(Status::Stopped); 8],
+                votes: [Vote::Yes; LEDGERS],
+                rows: [fresh(Status::Stopped); LEDGERS],
                 sent: 0,
             },
         };

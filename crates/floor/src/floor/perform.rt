@@ -1,5 +1,5 @@
 // How a ledger's response is carried out.
-ghost use Rattle.std.specs.Prelude.{◌≡◌, ◌<◌};
+ghost use Rattle.std.specs.Prelude.{◌≡◌};
 ghost use Rattle.protocol.specs.Perform.{perform_after, perform_answer, with_row};
 ghost use Rattle.floor.specs.State.{state};
 
@@ -13,15 +13,15 @@ use rules::row::Row;
 impl<N: Network, J: Journals> Floor<N, J> {
     // Every change of a row comes in here: the table lends that row and no other.
     pub(super) fn store(&mut self, ledger: u8, row: Row)
-        requires { ledger < 8 }
         ensures { state self.new ≡ with_row (state self.old) ledger row }
     {
-        self.rows[ledger as usize].follow(row);
+        if (ledger as usize) < self.rows.len() {
+            self.rows[ledger as usize].follow(row);
+        }
     }
 
     // The entry or the message first, and then the row: where either is refused, nothing has changed.
     pub(super) fn perform(&mut self, ledger: u8, response: Response) -> Result<(), FloorFault>
-        requires { ledger < 8 }
         ensures answer { result ≡ perform_answer N.DEPTH (state self.old) ledger response.effect }
         ensures after { state self.new ≡ perform_after N.DEPTH (state self.old) ledger response.row response.effect }
     {

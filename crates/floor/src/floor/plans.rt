@@ -1,11 +1,11 @@
 // What a call finds to do, or why it is refused.
-ghost use Rattle.std.specs.Prelude.{◌≡◌, ◌<◌, OnOk};
+ghost use Rattle.std.specs.Prelude.{◌≡◌};
 ghost use Rattle.floor.specs.State.{state};
 ghost use Rattle.protocol.specs.Calls.{expiry_of, restart_of};
 ghost use Rattle.protocol.specs.Plans.{begin_of, step_of, stop_of};
 
 use super::Floor;
-use super::reads::{fresh, runs, waits};
+use super::reads::{fresh, waits};
 use journals::entry::Entry;
 use journals::set::Journals;
 use network::link::Network;
@@ -19,13 +19,7 @@ impl<N: Network, J: Journals> Floor<N, J> {
     pub(super) fn begin_of(&self) -> Result<Response, FloorRefusal>
         ensures { result ≡ begin_of (state self.now) }
     {
-        if self.ledgers == 0 {
-            return Err(FloorRefusal::UnknownLedger);
-        }
-        let row = self.row_of(0);
-        if !runs(row.status) {
-            return Err(FloorRefusal::NotRunning);
-        }
+        let row = self.running(0)?;
         if !row.stage.is_initial() {
             return Err(FloorRefusal::Begun);
         }
@@ -37,16 +31,9 @@ impl<N: Network, J: Journals> Floor<N, J> {
 
     // A ledger's act.
     pub(super) fn step_of(&self, ledger: u8) -> Result<Response, FloorRefusal>
-        ensures answer { result ≡ step_of (state self.now) ledger }
-        ensures known { OnOk result (ledger < 8) }
+        ensures { result ≡ step_of (state self.now) ledger }
     {
-        if ledger >= self.ledgers {
-            return Err(FloorRefusal::UnknownLedger);
-        }
-        let row = self.row_of(ledger);
-        if !runs(row.status) {
-            return Err(FloorRefusal::NotRunning);
-        }
+        let row = self.running(ledger)?;
         self.member_of(ledger)
             .on_step(row)
             .ok_or(FloorRefusal::Idle)
@@ -54,15 +41,9 @@ impl<N: Network, J: Journals> Floor<N, J> {
 
     // Nothing is left of the row of a ledger that stops.
     pub(super) fn stop_of(&self, ledger: u8) -> Result<Response, FloorRefusal>
-        ensures answer { result ≡ stop_of (state self.now) ledger }
-        ensures known { OnOk result (ledger < 8) }
+        ensures { result ≡ stop_of (state self.now) ledger }
     {
-        if ledger >= self.ledgers {
-            return Err(FloorRefusal::UnknownLedger);
-        }
-        if !runs(self.row_of(ledger).status) {
-            return Err(FloorRefusal::NotRunning);
-        }
+        self.running(ledger)?;
         Ok(Response {
             row: fresh(Status::Stopped),
             effect: Effect::Nothing,
@@ -71,16 +52,10 @@ impl<N: Network, J: Journals> Floor<N, J> {
 
     // What a ledger does about another's silence, or why it does nothing.
     pub(super) fn expiry_of(&self, ledger: u8, silent: u8) -> Result<Response, FloorRefusal>
-        ensures answer { result ≡ expiry_of (state self.now) ledger silent }
-        ensures known { OnOk result (ledger < 8) }
+        ensures { result ≡ expiry_of (state self.now) ledger silent }
     {
-        if ledger >= self.ledgers || silent >= self.ledgers || ledger == silent {
-            return Err(FloorRefusal::UnknownLedger);
-        }
-        let row = self.row_of(ledger);
-        if !runs(row.status) {
-            return Err(FloorRefusal::NotRunning);
-        }
+        self.check_pair(ledger, silent)?;
+        let row = self.running(ledger)?;
         if !waits(ledger, row) {
             return Err(FloorRefusal::NotWaiting);
         }
@@ -92,15 +67,11 @@ impl<N: Network, J: Journals> Floor<N, J> {
 
     // What a restart of this ledger finds, or why it may not restart.
     pub(super) fn restart_of(&self, ledger: u8) -> Result<Finding, FloorRefusal>
-        ensures answer { result ≡ restart_of (state self.now) ledger }
-        ensures known { OnOk result (ledger < 8) }
+        ensures { result ≡ restart_of (state self.now) ledger }
     {
-        if ledger >= self.ledgers {
-            return Err(FloorRefusal::UnknownLedger);
+        if self.known(ledger)?.status != Status::Stopped {
+            return Err(FloorRefusal::NotStopped);
         }
-        match self.row_of(ledger).status {
-            Status::Stopped => Ok(self.finding(ledger)),
-            _ => Err(FloorRefusal::NotStopped),
-        }
+        Ok(self.finding(ledger))
     }
 }

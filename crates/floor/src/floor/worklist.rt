@@ -1,7 +1,7 @@
 // What a person must settle.
-ghost use Rattle.std.specs.Prelude.{◌≡◌, ◌<◌, ◌≤◌, true, length, take, is_ok};
+ghost use Rattle.std.specs.Prelude.{◌≡◌, ◌≤◌, true, length, take, is_ok};
 ghost use Rattle.floor.specs.State.{state};
-ghost use Rattle.protocol.specs.Worklist.{note_of, notes_of, uncertain, worklist_after, worklist_answer};
+ghost use Rattle.protocol.specs.Worklist.{note_of, notes_of, worklist_after, worklist_answer};
 ghost use Rattle.std.specs.Option.{option_to_list};
 
 use super::Floor;
@@ -11,17 +11,7 @@ use journals::set::Journals;
 use network::link::Network;
 use protocol::fault::{FloorFault, FloorRefusal};
 use protocol::note::{Note, Reason};
-use protocol::recovery::Recovery;
 use rules::stage::Status;
-
-pub(super) fn uncertain(recovery: Recovery) -> bool
-    ensures { result ≡ uncertain recovery }
-{
-    match recovery {
-        Recovery::Uncertain => true,
-        _ => false,
-    }
-}
 
 // The notes stand at the front.
 #[derive(Clone, Copy)]
@@ -32,15 +22,14 @@ struct Found {
 
 impl<N: Network, J: Journals> Floor<N, J> {
     fn note_of(&self, ledger: u8) -> Option<Note>
-        requires { ledger < 8 }
         ensures { option_to_list result ≡ note_of (state self.now) ledger }
     {
-        match self.row_of(ledger).status {
-            Status::Running if self.has(ledger, Entry::Dispute.code()) => Some(Note {
+        match self.status_of(ledger) {
+            Status::Running if self.has(ledger, Entry::Dispute) => Some(Note {
                 ledger,
                 reason: Reason::Disputed,
             }),
-            Status::Restarted if uncertain(self.finding(ledger).recovery) => Some(Note {
+            Status::Restarted if self.is_uncertain(ledger) => Some(Note {
                 ledger,
                 reason: Reason::Uncertain,
             }),

@@ -1,10 +1,6 @@
-use Rattle.std.proofs.Common.{is_err, ap, ◌∙◌}
-use Rattle.protocol.proofs.AllBelow.{below_none, below_more}
+use Rattle.std.proofs.Common.{rules}
+use Rattle.floor.proofs.Below.{below_from_all}
 use Rattle.floor.proofs.floor.Floor.is_patient.Goals as goal
 
-pub loop-ledger-init : goal.loop-ledger-init
-loop-ledger-init g c = below_none _
-
-pub loop-ledger-preserved : goal.loop-ledger-preserved
-loop-ledger-preserved g c =
-    below_more _ c.loop-ledger.invariant.0 (c.is_err-all.ensures.value ∙ ap is_err c.expiry_of.ensures.answer) c.loop-ledger-test.true
+pub returns : goal.returns
+returns g c = below_from_all c.all.ensures.ran (search rules) (search rules)

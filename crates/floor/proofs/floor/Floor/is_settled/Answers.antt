@@ -1,9 +1,6 @@
-use Rattle.protocol.proofs.AllBelow.{below_none, below_more}
+use Rattle.std.proofs.Common.{rules}
+use Rattle.floor.proofs.Below.{below_from_all}
 use Rattle.floor.proofs.floor.Floor.is_settled.Goals as goal
 
-pub loop-sender-init : goal.loop-sender-init
-loop-sender-init g c = below_none _
-
-pub loop-sender-preserved : goal.loop-sender-preserved
-loop-sender-preserved g c =
-    below_more _ c.loop-sender.invariant.0 c.is_settled_from-all.ensures c.loop-sender-test.true
+pub returns : goal.returns
+returns g c = below_from_all c.all.ensures.ran (search rules) (search rules)
