@@ -1,15 +1,16 @@
 // How lanes are made, and how messages come and go.
-ghost use Rattle.std.specs.Prelude.{◌≡◌, ◌+◌, ◌*◌, ◌≤◌, true, false, [], map, length, if◌then◌else◌, slice_index_or};
+ghost use Rattle.std.specs.Prelude.{◌≡◌, ◌+◌, ◌*◌, ◌<◌, ◌≤◌};
 ghost use Rattle.lanes.specs.Lanes.{links_of};
 ghost use Rattle.lanes.specs.Rings.{messages};
-ghost use Rattle.network.specs.Links.{is_link, no_links, with_link};
+ghost use Rattle.network.specs.Links.{no_links};
 ghost use Rattle.std.proofs.Common.{lit≤};
 ghost use Rattle.lanes.specs.LaneLaws.{at_most_4, none_outside};
 
 use crate::ring::{Ring, SLOTS};
 use crate::{Lanes, RINGS};
+use ledgers::ledger::LEDGERS;
 use network::fault::{NetworkFault, NetworkRefusal};
-use network::link::{LEDGERS, Network, check_link};
+use network::link::{Network, Route, check_link};
 use network::message::Message;
 
 impl Lanes {
@@ -17,26 +18,24 @@ impl Lanes {
     pub fn new() -> Lanes
         ensures { links_of result ≡ no_links }
     {
-        let ring = Ring::new();
         Lanes {
-            rings: [ring; RINGS],
+            rings: [Ring::new(); RINGS],
         }
     }
 
-    fn ring_of(&self, sender: u8, receiver: u8) -> Ring
-        requires { is_link sender receiver ≡ true }
-        ensures { messages result ≡ links_of self.now sender receiver }
+    fn ring_of(&self, route: Route) -> Ring
+        ensures { messages result ≡ links_of self.now route.sender.number route.receiver.number }
     {
-        self.rings[LEDGERS * sender as usize + receiver as usize]
+        self.rings[place(route)]
     }
+}
 
-    // Every change of a ring comes in here.
-    fn store(&mut self, sender: u8, receiver: u8, ring: Ring)
-        requires { is_link sender receiver ≡ true }
-        ensures { links_of self.new ≡ with_link (links_of self.old) sender receiver (messages ring) }
-    {
-        self.rings[LEDGERS * sender as usize + receiver as usize] = ring;
-    }
+// The place of a link's ring.
+fn place(route: Route) -> usize
+    ensures value { result ≡ 8 * route.sender.number + route.receiver.number }
+    ensures inside { result < 64 }
+{
+    LEDGERS * route.sender.index() + route.receiver.index()
 }
 
 impl Network for Lanes {
@@ -56,33 +55,33 @@ impl Network for Lanes {
         Self::DEPTH
     }
 
+    #[tactic(auto, using(crate::proofs::LaneFacts::put_there))]
     fn put(&mut self, sender: u8, receiver: u8, message: Message) -> Result<(), NetworkFault> {
-        check_link(sender, receiver)?;
-        let mut ring = self.ring_of(sender, receiver);
+        let route = check_link(sender, receiver)?;
+        let ring = &mut self.rings[place(route)];
         if ring.len() >= Self::DEPTH {
-            return Err(NetworkFault::on(sender, receiver, NetworkRefusal::LinkFull));
+            return Err(route.refused(NetworkRefusal::LinkFull));
         }
         ring.push(message);
-        self.store(sender, receiver, ring);
         Ok(())
     }
 
+    #[tactic(auto, using(crate::proofs::LaneFacts::taken_there))]
     fn take(&mut self, sender: u8, receiver: u8) -> Result<Message, NetworkFault> {
-        let message = self.look(sender, receiver)?;
-        let mut ring = self.ring_of(sender, receiver);
-        ring.pop();
-        self.store(sender, receiver, ring);
-        Ok(message)
+        let route = check_link(sender, receiver)?;
+        let ring = &mut self.rings[place(route)];
+        let first = ring.pop();
+        first.ok_or(route.refused(NetworkRefusal::NothingThere))
     }
 
     fn look(&self, sender: u8, receiver: u8) -> Result<Message, NetworkFault> {
-        check_link(sender, receiver)?;
-        let first = self.ring_of(sender, receiver).first();
-        first.ok_or(NetworkFault::on(sender, receiver, NetworkRefusal::NothingThere))
+        let route = check_link(sender, receiver)?;
+        let first = self.ring_of(route).first();
+        first.ok_or(route.refused(NetworkRefusal::NothingThere))
     }
 
     fn count(&self, sender: u8, receiver: u8) -> Result<usize, NetworkFault> {
-        check_link(sender, receiver)?;
-        Ok(self.ring_of(sender, receiver).len())
+        let route = check_link(sender, receiver)?;
+        Ok(self.ring_of(route).len())
     }
 }
