@@ -1,3 +1,2 @@
-pub mod Gap
 pub mod PoolFacts
 pub mod SentFacts

@@ -27,21 +27,24 @@ module _ (q p : ℕ) (sent : List Sent) (start : ℕ) where
   pub link_end : next_of (is_on q p) sent start ≡ None → link_of q p (drop start sent) ≡ []
   link_end e = ap (map message_in) (next_none (is_on q p) sent start e)
 
+pub link_length : (q p : ℕ) (sent : List Sent) → length (link_of q p sent) ≡ length (filter (is_on q p) sent)
+link_length q p sent = rw length-map refl
+
 pub link_push : (q p : ℕ) (sent : List Sent) (s : Sent) → link_of q p (sent ++ (s ∷ [])) ≡ cond (is_on q p s) (link_of q p sent ++ (s.message ∷ [])) (link_of q p sent)
 link_push q p sent s =
     ap (map message_in) (filter-append (is_on q p) sent (s ∷ [])) ∙ map-append message_in (filter (is_on q p) sent) (cond (is_on q p s) (s ∷ []) [])
     ∙ elim (is_on q p s) as (λ b. link_of q p sent ++ map message_in (cond b (s ∷ []) []) ≡ cond b (link_of q p sent ++ (s.message ∷ [])) (link_of q p sent)) [ true ↦ refl | false ↦ append-nil _ ]
 
-from_parts : (sent : List Sent) → AllByRecursion (λ s. is_link s.sender s.receiver ≡ true) sent → ((q p : ℕ) → length (link_of q p sent) ≤ 2) → lawful sent ≡ true
+from_parts : (sent : List Sent) → AllByRecursion (λ s. is_link s.link.sender s.link.receiver ≡ true) sent → ((q p : ℕ) → length (link_of q p sent) ≤ 2) → lawful sent ≡ true
 unfolding lawful
 from_parts sent links short =
-    and_from (every (λ s. is_link s.sender s.receiver) sent) (every_below (λ q. every_below (λ p. nat_le (length (link_of q p sent)) 2) 8) 8)
-    ((decides_every (λ s. is_link s.sender s.receiver) sent).1 links)
+    and_from (every (λ s. is_link s.link.sender s.link.receiver) sent) (every_below (λ q. every_below (λ p. nat_le (length (link_of q p sent)) 2) 8) 8)
+    ((decides_every (λ s. is_link s.link.sender s.link.receiver) sent).1 links)
     ((decides_below (λ q. every_below (λ p. nat_le (length (link_of q p sent)) 2) 8) 8).1 (λ q q8. (decides_below (λ p. nat_le (length (link_of q p sent)) 2) 8).1 (λ p p8. le-leb (length (link_of q p sent)) 2 (short q p))))
 
 -- the 56 links
 abbrev on : Sent → Link → Bool
-on s l = s.sender == l.sender && s.receiver == l.receiver
+on s l = s.link.sender == l.sender && s.link.receiver == l.receiver
 
 abbrev from_ledger : ℕ → ℕ → List Link
 from_ledger q zero = []
@@ -58,34 +61,34 @@ all_links : AllByRecursion (λ l. is_link l.sender l.receiver ≡ true) pairs
 unfolding is_link
 all_links = (decides_every (λ l. is_link l.sender l.receiver) pairs).0 refl
 
-covered : (s : Sent) → is_link s.sender s.receiver ≡ true → owned_by on pairs s ≡ true
+covered : (s : Sent) → is_link s.link.sender s.link.receiver ≡ true → owned_by on pairs s ≡ true
 unfolding is_link
 covered s link =
-    let at_sender = (decides_below (λ q. every_below (seen q) 8) 8).0 refl s.sender (on_ends s.sender s.receiver link).0 in
-    let here = (decides_below (seen s.sender) 8).0 at_sender s.receiver (on_ends s.sender s.receiver link).1 in
+    let at_sender = (decides_below (λ q. every_below (seen q) 8) 8).0 refl s.link.sender (on_ends s.link.sender s.link.receiver link).0 in
+    let here = (decides_below (seen s.link.sender) 8).0 at_sender s.link.receiver (on_ends s.link.sender s.link.receiver link).1 in
     rw link at here
   where
     -- a pair of ledgers is no link, or is among the 56
     seen : ℕ → ℕ → Bool
-    seen q p = not (is_link q p) || owned_by on pairs (record { sender = q; receiver = p; message = Prepare })
+    seen q p = not (is_link q p) || owned_by on pairs (record { link = record { sender = q; receiver = p }; message = Prepare })
 
 module _ (sent : List Sent) (law : lawful sent ≡ true) where
-  pub lawful_push : (s : Sent) → is_link s.sender s.receiver ≡ true → length (link_of s.sender s.receiver sent) < 2 → lawful (sent ++ (s ∷ [])) ≡ true
+  pub lawful_push : (s : Sent) → is_link s.link.sender s.link.receiver ≡ true → length (link_of s.link.sender s.link.receiver sent) < 2 → lawful (sent ++ (s ∷ [])) ≡ true
   lawful_push s link room =
-      from_parts (sent ++ (s ∷ [])) (All-push (λ x. is_link x.sender x.receiver ≡ true) sent s (on_links sent law) link)
+      from_parts (sent ++ (s ∷ [])) (All-push (λ x. is_link x.link.sender x.link.receiver ≡ true) sent s (on_links sent law) link)
       (λ q p. still q p (is_on q p s) refl)
     where
       still : (q p : ℕ) (own : Bool) → is_on q p s ≡ own → length (link_of q p (sent ++ (s ∷ []))) ≤ 2
       still q p true own =
-          let ends = and_parts (s.sender == q) (s.receiver == p) own in
-          let same : link_of s.sender s.receiver sent ≡ link_of q p sent = ap (λ a. link_of a s.receiver sent) (eqb-true s.sender q ends.0) ∙ ap (λ b. link_of q b sent) (eqb-true s.receiver p ends.1) in
+          let ends = and_parts (s.link.sender == q) (s.link.receiver == p) own in
+          let same : link_of s.link.sender s.link.receiver sent ≡ link_of q p sent = ap (λ a. link_of a s.link.receiver sent) (eqb-true s.link.sender q ends.0) ∙ ap (λ b. link_of q b sent) (eqb-true s.link.receiver p ends.1) in
           rw (link_push q p sent s, own) (omega (arith, length-append (link_of q p sent) (s.message ∷ []), ap length same))
       still q p false other = rw (link_push q p sent s, other) (at_most_2 sent law q p)
 
   -- two messages on each of 56 links
   pub at_most_112 : length sent ≤ 112
   unfolding is_link
-  at_most_112 = crowd on pairs 2 sent (All-weaker (λ s. is_link s.sender s.receiver ≡ true) (λ s. owned_by on pairs s ≡ true) covered sent (on_links sent law)) (All-weaker (λ l. is_link l.sender l.receiver ≡ true) (λ l. length (filter (λ s. on s l) sent) ≤ 2) (λ l e. rw length-map at (at_most_2 sent law l.sender l.receiver)) pairs all_links)
+  at_most_112 = crowd on pairs 2 sent (All-weaker (λ s. is_link s.link.sender s.link.receiver ≡ true) (λ s. owned_by on pairs s ≡ true) covered sent (on_links sent law)) (All-weaker (λ l. is_link l.sender l.receiver ≡ true) (λ l. length (filter (λ s. on s l) sent) ≤ 2) (λ l e. rw length-map at (at_most_2 sent law l.sender l.receiver)) pairs all_links)
 
 -- the list without the message at i
 module _ (sent : List Sent) (i : ℕ) (d : Sent) (within : i < length sent) where
@@ -118,7 +121,7 @@ module _ (sent : List Sent) (i : ℕ) (d : Sent) (within : i < length sent) wher
 
   pub still_lawful : lawful sent ≡ true → lawful left ≡ true
   still_lawful law =
-      from_parts left (All-append (λ s. is_link s.sender s.receiver ≡ true) (take i sent) (drop (i + 1) sent) (All-take (λ s. is_link s.sender s.receiver ≡ true) i sent (on_links sent law)) (All-drop (λ s. is_link s.sender s.receiver ≡ true) (i + 1) sent (on_links sent law)))
+      from_parts left (All-append (λ s. is_link s.link.sender s.link.receiver ≡ true) (take i sent) (drop (i + 1) sent) (All-take (λ s. is_link s.link.sender s.link.receiver ≡ true) i sent (on_links sent law)) (All-drop (λ s. is_link s.link.sender s.link.receiver ≡ true) (i + 1) sent (on_links sent law)))
       (λ q p. no_longer q p (is_on q p gone) refl)
     where
       no_longer : (q p : ℕ) (own : Bool) → is_on q p gone ≡ own → length (link_of q p left) ≤ 2

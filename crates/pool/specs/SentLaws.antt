@@ -26,12 +26,12 @@ on_ends q p link =
     (ltb-true q 8 a.0, ltb-true p 8 b.0)
 
 module _ (sent : List Sent) (law : lawful sent ≡ true) where
-  parts : (every (λ s. is_link s.sender s.receiver) sent ≡ true) × (every_below (λ q. every_below (λ p. nat_le (length (link_of q p sent)) 2) 8) 8 ≡ true)
+  parts : (every (λ s. is_link s.link.sender s.link.receiver) sent ≡ true) × (every_below (λ q. every_below (λ p. nat_le (length (link_of q p sent)) 2) 8) 8 ≡ true)
   unfolding lawful
-  parts = and_parts (every (λ s. is_link s.sender s.receiver) sent) (every_below (λ q. every_below (λ p. nat_le (length (link_of q p sent)) 2) 8) 8) law
+  parts = and_parts (every (λ s. is_link s.link.sender s.link.receiver) sent) (every_below (λ q. every_below (λ p. nat_le (length (link_of q p sent)) 2) 8) 8) law
 
-  pub on_links : AllByRecursion (λ s. is_link s.sender s.receiver ≡ true) sent
-  on_links = (decides_every (λ s. is_link s.sender s.receiver) sent).0 parts.0
+  pub on_links : AllByRecursion (λ s. is_link s.link.sender s.link.receiver ≡ true) sent
+  on_links = (decides_every (λ s. is_link s.link.sender s.link.receiver) sent).0 parts.0
 
   few : (q p : ℕ) → q < 8 → p < 8 → length (link_of q p sent) ≤ 2
   few q p q8 p8 =
@@ -41,9 +41,9 @@ module _ (sent : List Sent) (law : lawful sent ≡ true) where
   pub none_outside : (q p : ℕ) → is_link q p ≡ false → link_of q p sent ≡ []
   unfolding is_link
   none_outside q p outside =
-      ap (map message_in) (none_kept sent (All-weaker (λ s. is_link s.sender s.receiver ≡ true) (λ s. is_on q p s ≡ false) (λ s e. other s e) sent on_links))
+      ap (map message_in) (none_kept sent (All-weaker (λ s. is_link s.link.sender s.link.receiver ≡ true) (λ s. is_on q p s ≡ false) (λ s e. other s e) sent on_links))
     where
-      other : (s : Sent) → is_link s.sender s.receiver ≡ true → is_on q p s ≡ false
+      other : (s : Sent) → is_link s.link.sender s.link.receiver ≡ true → is_on q p s ≡ false
       other s e = grind (arith, nat_tests)
 
       none_kept : (xs : List Sent) → AllByRecursion (λ s. is_on q p s ≡ false) xs → filter (is_on q p) xs ≡ []

@@ -1,9 +1,10 @@
 // The pool: a network that keeps all messages in one table, in the order of sending.
 #![tactic(auto)]
 
-ghost use Rattle.std.specs.Prelude.{◌≡◌, ◌≤◌, true, length, take};
+ghost use Rattle.std.specs.Prelude.{◌≡◌, true};
 ghost use Rattle.pool.specs.Sent.{lawful};
 
+use arrayvec::ArrayVec;
 use sent::Sent;
 
 mod calls;
@@ -14,10 +15,7 @@ pub const PLACES: usize = 112;
 
 #[derive(Drop)]
 pub struct Pool {
-    // The first `len` places hold the messages on their way, the oldest first.
-    table: [Sent; PLACES],
-    len: usize,
-    ghost whole: { length table ≡ 112 },
-    ghost within: { len ≤ 112 },
-    ghost kept: { lawful (take len table) ≡ true },
+    // The messages on their way, the oldest first.
+    table: ArrayVec<Sent, PLACES>,
+    ghost kept: { lawful table.items ≡ true },
 }

@@ -1,40 +1,46 @@
 // Messages on their way, and the links that they are on.
-ghost use Rattle.std.specs.Prelude.{◌≡◌, ◌&&◌, length, ◌==◌};
-ghost use Rattle.pool.specs.Sent.{link_of};
+ghost use Rattle.std.specs.Prelude.{◌≡◌, filter, length};
+ghost use Rattle.pool.specs.Sent.{is_on};
 ghost use Rattle.pool.specs.SentOwner.{one_link};
 
 use network::link::Link;
 use network::message::Message;
-use owned::{Owned, next_of};
+use owned::Owned;
 
 #[derive(Clone, Copy)]
 pub struct Sent {
-    pub sender: u8,
-    pub receiver: u8,
+    pub link: Link,
     pub message: Message,
+}
+
+// What an unused place holds.
+impl Default for Sent {
+    fn default() -> Sent {
+        Sent {
+            link: Link {
+                sender: 0,
+                receiver: 0,
+            },
+            message: Message::Prepare,
+        }
+    }
 }
 
 impl Owned for Sent {
     type Owner = Link;
 
-    ghost belongs = { λ s l. (s.sender == l.sender) && s.receiver == l.receiver };
+    ghost belongs = { λ s l. is_on l.sender l.receiver s };
 
     ghost one_owner = { one_link };
 
     fn belongs_to(&self, owner: &Link) -> bool {
-        self.sender == owner.sender && self.receiver == owner.receiver
+        self.link == *owner
     }
 }
 
 // How many messages are on a link.
 pub fn count_on(sent: &[Sent], link: Link) -> usize
-    ensures { result ≡ length (link_of link.sender link.receiver sent.now) }
+    ensures { result ≡ length (filter (is_on link.sender link.receiver) sent.now) }
 {
-    let mut count = 0;
-    let mut start = 0;
-    while let Some(i) = next_of(sent, start, &link) {
-        count += 1;
-        start = i + 1;
-    }
-    count
+    sent.iter().filter(|sent| sent.belongs_to(&link)).count()
 }
