@@ -69,6 +69,9 @@ module _ (pool : Pool) (q p i : ℕ) (sent rest : List Sent) (all : sent ≡ sen
   at : next_of (is_on q p) (sent_of pool) 0 ≡ Some i
   at = rw all at found
 
+  pub taken_there : (s : Sent) → s ≡ slice_index_or (sent_of pool) i s → Some s.message ≡ slice_get (links_of pool q p) 0
+  taken_there s here = ap (λ (x : Sent). Some x.message) here ∙ first_there pool q p (sent_of pool) refl i s at
+
   pub lawful_left : lawful rest ≡ true
   lawful_left = rw (less, closed) (still_lawful (sent_of pool) i blank (next_some (is_on q p) (sent_of pool) 0 i at).within pool.kept)
 

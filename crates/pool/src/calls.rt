@@ -13,6 +13,7 @@ use network::fault::{NetworkFault, NetworkRefusal};
 use network::link::{Link, Network, Route, check_link};
 use network::message::Message;
 use owned::next_of;
+use owned::of_owner::of_owner;
 
 impl Pool {
     // A pool with no message on its way.
@@ -37,16 +38,15 @@ impl Pool {
         });
     }
 
-    #[tactic(auto, using(crate::proofs::PoolFacts::first_there, crate::proofs::PoolFacts::none_there))]
     fn first(&self, link: Link) -> Option<Message>
         ensures { result ≡ slice_get (links_of self.now link.sender link.receiver) 0 }
     {
-        let sent = self.table.as_slice();
-        let i = next_of(sent, 0, &link)?;
-        Some(sent[i].message)
+        of_owner(self.table.as_slice(), &link)
+            .next()
+            .map(|sent| sent.message)
     }
 
-    #[tactic(auto, using(crate::proofs::PoolFacts::first_there, crate::proofs::PoolFacts::none_there, crate::proofs::PoolFacts::lawful_left, crate::proofs::PoolFacts::links_left))]
+    #[tactic(auto, using(crate::proofs::PoolFacts::none_there))]
     fn take_first(&mut self, link: Link) -> Option<Message>
         ensures value { result ≡ slice_get (links_of self.old link.sender link.receiver) 0 }
         ensures after { links_of self.new ≡ (if is_some result then with_link (links_of self.old) link.sender link.receiver (drop 1 (links_of self.old link.sender link.receiver)) else links_of self.old) }
