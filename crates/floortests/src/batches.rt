@@ -1,23 +1,15 @@
 // Whole batches, over the pool and the rows, and over the lanes and the tape.
-use floor::fault::FloorFault;
 use floor::floor::Floor;
 use floor::opening::Opening;
 use journals::rows::Rows;
 use journals::set::Journals;
 use lanes::Lanes;
+use ledgers::fault::refusal;
 use network::link::Network;
 use pool::Pool;
 use std::process::Abort;
 use std::test::Fail;
 use tape::Tape;
-
-// The answer as a number: 0, or the refusal's.
-pub(crate) fn number<T: Drop>(answer: Result<T, FloorFault>) -> u8 {
-    match answer {
-        Ok(_) => 0,
-        Err(fault) => fault.number(),
-    }
-}
 
 // The ledger wrote these codes and no other.
 fn check_journal<N: Network, J: Journals>(
@@ -26,10 +18,10 @@ fn check_journal<N: Network, J: Journals>(
     ledger: u8,
     codes: &[u8],
 ) -> Result<(), Fail> {
-    for place in 0..codes.len() {
-        assert_eq!(rt; floor.read(ledger, place)?, codes[place]);
+    for (place, code) in codes.iter().enumerate() {
+        assert_eq!(rt; floor.read(ledger, place)?, *code);
     }
-    assert_eq!(rt; number(floor.read(ledger, codes.len())), 7);
+    assert_eq!(rt; refusal(floor.read(ledger, codes.len())), Some(7));
     Ok(())
 }
 
@@ -90,9 +82,9 @@ fn refused_openings<N: Network + Drop, J: Journals + Drop>(
     journals: J,
 ) {
     let Opening { mut floor, answer } = Floor::open(network, journals, 2, &[1, 0]);
-    assert_eq!(rt; number(answer), 1);
-    assert_eq!(rt; number(floor.begin()), 2);
-    assert_eq!(rt; number(floor.status(0)), 2);
+    assert_eq!(rt; refusal(answer), Some(1));
+    assert_eq!(rt; refusal(floor.begin()), Some(2));
+    assert_eq!(rt; refusal(floor.status(0)), Some(2));
     assert_eq!(rt; floor.total(), 0);
 }
 

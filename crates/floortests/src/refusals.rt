@@ -1,125 +1,82 @@
 // The refusals of each call, in their order, and what a person is told.
-use crate::batches::number;
 use floor::floor::Floor;
 use floor::opening::Opening;
 use journals::rows::Rows;
+use ledgers::fault::refusal;
 use pool::Pool;
 use protocol::call::Call;
 use protocol::note::{Note, Reason};
 use std::test::Fail;
 
-struct Case {
-    call: Call,
-    // 0 where the call is taken.
-    refusal: u8,
-}
-
-const STOPS_AND_SILENCE: [Case; 17] = [
-    Case {
-        call: Call::Step(2),
-        refusal: 2,
-    },
-    Case {
-        call: Call::Step(0),
-        refusal: 6,
-    },
-    Case {
-        call: Call::Restart(0),
-        refusal: 4,
-    },
-    Case {
-        call: Call::Expire {
+// Each call, and the number of its refusal, if it is refused.
+const STOPS_AND_SILENCE: [(Call, Option<u8>); 17] = [
+    (Call::Step(2), Some(2)),
+    (Call::Step(0), Some(6)),
+    (Call::Restart(0), Some(4)),
+    (
+        Call::Expire {
             ledger: 0,
             silent: 1,
         },
-        refusal: 9,
-    },
-    Case {
-        call: Call::Expire {
+        Some(9),
+    ),
+    (
+        Call::Expire {
             ledger: 1,
             silent: 1,
         },
-        refusal: 2,
-    },
-    Case {
-        call: Call::Deliver {
+        Some(2),
+    ),
+    (
+        Call::Deliver {
             sender: 0,
             receiver: 1,
         },
-        refusal: 7,
-    },
-    Case {
-        call: Call::Deliver {
+        Some(7),
+    ),
+    (
+        Call::Deliver {
             sender: 1,
             receiver: 1,
         },
-        refusal: 2,
-    },
-    Case {
-        call: Call::Begin,
-        refusal: 0,
-    },
-    Case {
-        call: Call::Begin,
-        refusal: 5,
-    },
-    Case {
-        call: Call::Step(0),
-        refusal: 0,
-    },
-    Case {
-        call: Call::Deliver {
+        Some(2),
+    ),
+    (Call::Begin, None),
+    (Call::Begin, Some(5)),
+    (Call::Step(0), None),
+    (
+        Call::Deliver {
             sender: 0,
             receiver: 1,
         },
-        refusal: 0,
-    },
-    Case {
-        call: Call::Stop(1),
-        refusal: 0,
-    },
-    Case {
-        call: Call::Stop(1),
-        refusal: 3,
-    },
-    Case {
-        call: Call::Step(1),
-        refusal: 3,
-    },
-    Case {
-        call: Call::Restart(1),
-        refusal: 0,
-    },
-    Case {
-        call: Call::Restart(1),
-        refusal: 4,
-    },
-    Case {
-        call: Call::Stop(2),
-        refusal: 2,
-    },
+        None,
+    ),
+    (Call::Stop(1), None),
+    (Call::Stop(1), Some(3)),
+    (Call::Step(1), Some(3)),
+    (Call::Restart(1), None),
+    (Call::Restart(1), Some(4)),
+    (Call::Stop(2), Some(2)),
 ];
 
 #[test]
 fn each_call_refuses_in_its_order(rt: HostRuntime) -> Result<(), Fail> {
     let Opening { mut floor, answer } = Floor::open(Pool::new(), Rows::new(), 2, &[1, 1]);
     answer?;
-    for case in &STOPS_AND_SILENCE {
-        assert_eq!(rt; number(floor.call(case.call)), case.refusal);
+    for (call, refused) in STOPS_AND_SILENCE {
+        assert_eq!(rt; refusal(floor.call(call)), refused);
     }
     let blank = Note {
         ledger: 9,
         reason: Reason::Disputed,
     };
-    let mut none = [blank; 0];
-    match floor.worklist(&mut none) {
-        Ok(_) => assert!(rt; false),
-        Err(fault) => assert_eq!(rt; fault.number(), 14),
-    }
+    assert_eq!(rt; refusal(floor.worklist(&mut [blank; 0])), Some(14));
     let mut list = [blank; 3];
     assert_eq!(rt; floor.worklist(&mut list)?, 1);
-    assert_eq!(rt; list[0].ledger, 1);
-    assert_eq!(rt; list[0].reason.number(), 1);
-    assert_eq!(rt; list[1].ledger, 9);
+    let found = Note {
+        ledger: 1,
+        reason: Reason::Uncertain,
+    };
+    assert_eq!(rt; list, [found, blank, blank]);
     Ok(())
 }

@@ -1,10 +1,10 @@
 // When an expiry is on time, and when a floor is at rest.
-use crate::batches::number;
 use floor::floor::Floor;
 use floor::opening::Opening;
 use journals::rows::Rows;
 use journals::set::Journals;
 use lanes::Lanes;
+use ledgers::fault::refusal;
 use network::link::Network;
 use pool::Pool;
 use protocol::call::Call;
@@ -103,7 +103,7 @@ fn stopped_coordinator<N: Network + Drop, J: Journals + Drop>(
         assert_eq!(rt; floor.is_on_time(0)?, moment.on_time);
         assert_eq!(rt; floor.is_at_rest(), moment.at_rest);
     }
-    assert_eq!(rt; number(floor.is_on_time(2)), 2);
+    assert_eq!(rt; refusal(floor.is_on_time(2)), Some(2));
     Ok(())
 }
 
@@ -117,5 +117,5 @@ fn a_stopped_coordinator_is_missed_until_the_rest(rt: HostRuntime) -> Result<(),
 fn a_closed_floor_is_at_rest(rt: HostRuntime) {
     let Opening { floor, answer: _ } = Floor::open(Pool::new(), Rows::new(), 9, &[1; 9]);
     assert!(rt; floor.is_at_rest());
-    assert_eq!(rt; number(floor.is_on_time(0)), 2);
+    assert_eq!(rt; refusal(floor.is_on_time(0)), Some(2));
 }

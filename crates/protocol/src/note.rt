@@ -2,9 +2,10 @@
 ghost use Rattle.std.specs.Prelude.{◌≡◌};
 ghost use Rattle.protocol.specs.Worklist.{reason_number};
 
-#[derive(Clone, Copy, Debug, PartialEq, Eq)]
+#[derive(Clone, Copy, Debug, Default, PartialEq, Eq)]
 pub enum Reason {
     // The ledger restarted, and its journal does not tell what the others did.
+    #[default]
     Uncertain = 1,
     // The ledger runs, and another decided the contrary.
     Disputed = 2,
@@ -18,7 +19,7 @@ impl Reason {
     }
 }
 
-#[derive(Clone, Copy, Debug, PartialEq, Eq)]
+#[derive(Clone, Copy, Debug, Default, PartialEq, Eq)]
 pub struct Note {
     pub ledger: u8,
     pub reason: Reason,

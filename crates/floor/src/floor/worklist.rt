@@ -1,24 +1,19 @@
 // What a person must settle.
-ghost use Rattle.std.specs.Prelude.{◌≡◌, ◌≤◌, true, length, take, is_ok};
+ghost use Rattle.std.specs.Prelude.{◌≡◌, ◌≤◌, true, length, is_ok};
 ghost use Rattle.floor.specs.State.{state};
 ghost use Rattle.protocol.specs.Worklist.{note_of, notes_of, worklist_after, worklist_answer};
 ghost use Rattle.std.specs.Option.{option_to_list};
 
 use super::Floor;
+use arrayvec::ArrayVec;
 use journals::entry::Entry;
 use journals::fault::NO_LEDGER;
 use journals::set::Journals;
+use ledgers::ledger::LEDGERS;
 use network::link::Network;
 use protocol::fault::{FloorFault, FloorRefusal};
 use protocol::note::{Note, Reason};
 use rules::stage::Status;
-
-// The notes stand at the front.
-#[derive(Clone, Copy)]
-struct Found {
-    notes: [Note; 8],
-    count: usize,
-}
 
 impl<N: Network, J: Journals> Floor<N, J> {
     fn note_of(&self, ledger: u8) -> Option<Note>
@@ -38,22 +33,16 @@ impl<N: Network, J: Journals> Floor<N, J> {
     }
 
     // Each ledger has one note at the most.
-    fn find_notes(&self) -> Found
-        ensures notes { take result.count result.notes ≡ notes_of (state self.now) }
-        ensures few { result.count ≤ 8 }
+    fn notes(&self) -> ArrayVec<Note, LEDGERS>
+        ensures { result.items ≡ notes_of (state self.now) }
     {
-        let mut notes = [Note {
-            ledger: 0,
-            reason: Reason::Uncertain,
-        }; 8];
-        let mut count = 0;
+        let mut notes = ArrayVec::new();
         for ledger in 0..self.ledgers {
             if let Some(note) = self.note_of(ledger) {
-                notes[count] = note;
-                count += 1;
+                notes.push(note);
             }
         }
-        Found { notes, count }
+        notes
     }
 
     // Fills the front of the list, by ledger number, with what a person must settle, and answers how much that is. Eight places suffice.
@@ -62,11 +51,11 @@ impl<N: Network, J: Journals> Floor<N, J> {
         ensures after { list.new ≡ worklist_after (state self.now) list.old }
         ensures eight { 8 ≤ length list.old → is_ok result ≡ true }
     {
-        let found = self.find_notes();
-        if found.count > list.len() {
+        let notes = self.notes();
+        if notes.len() > list.len() {
             return Err(FloorFault::Refused(FloorRefusal::ShortList, NO_LEDGER, NO_LEDGER));
         }
-        list[0..found.count].copy_from_slice(&found.notes[0..found.count]);
-        Ok(found.count)
+        list[..notes.len()].copy_from_slice(&notes);
+        Ok(notes.len())
     }
 }
