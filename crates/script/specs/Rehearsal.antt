@@ -1,5 +1,5 @@
 -- What a script comes to: its calls, one after the other, on a new floor.
-use Rattle.std.specs.Prelude.{◌≡◌, ℕ, ◌+◌, true, List, [], ◌∷◌, ◌++◌, length, drop, is_ok, Some, None, Ok, Err, Option, Result, nat_le}
+use Rattle.std.specs.Prelude.{◌≡◌, ℕ, ◌+◌, true, List, [], ◌∷◌, ◌++◌, map, length, drop, is_ok, Some, None, Ok, Err, Option, Result, nat_le}
 use Rattle.journals.specs.Calls.{Entries}
 use Rattle.network.specs.Links.{Links}
 use Rattle.protocol.specs.Plans.{after_all, call_after, call_answer}
@@ -39,6 +39,17 @@ calls_of (line ∷ lines) = where_read (read_call line) (λ call. call ∷ calls
 abbrev pub left_text : ℕ → List ℕ → List ℕ
 left_text k [] = []
 left_text k (b ∷ bs) = fault_text k BadLine
+
+-- what each line reads as; a last line that does not end is no call
+abbrev pub left_read : List ℕ → List (Option Call)
+left_read [] = []
+left_read (b ∷ bs) = None ∷ []
+
+abbrev pub reads : Lines → List (Option Call)
+reads lines = map read_call lines.whole ++ left_read lines.left
+
+abbrev pub reads_from : ℕ → List ℕ → List (Option Call)
+reads_from start script = reads (lines_of (drop start script))
 
 -- a line for each call, the first of them line k; a bad line ends them
 abbrev pub calls_text : ℕ → State → ℕ → List (List ℕ) → List ℕ → List ℕ

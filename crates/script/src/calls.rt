@@ -1,9 +1,10 @@
 // The calls of a script, one after the other.
 ghost use Rattle.std.specs.Prelude.{◌≡◌, ◌≤◌, ◌++◌, length, drop, string_bytes, OnOk};
+ghost use Rattle.std.specs.Iterator.{YieldsFirst, item_count};
 ghost use Rattle.floor.specs.State.{state};
 ghost use Rattle.protocol.specs.Plans.{after_all};
 ghost use Rattle.script.specs.Lines.{lines_of};
-ghost use Rattle.script.specs.Rehearsal.{calls_of, calls_text, raised};
+ghost use Rattle.script.specs.Rehearsal.{calls_of, calls_text, raised, reads_from};
 
 use crate::fault::{ScriptRefusal, bad_line};
 use crate::line::next_line;
@@ -12,7 +13,7 @@ use crate::texts::{push_answer, push_fault};
 use floor::floor::Floor;
 use journals::set::Journals;
 use network::link::Network;
-use protocol::call::Answer;
+use protocol::call::{Answer, Call};
 use protocol::fault::FloorFault;
 use std::alloc::AllocError;
 
@@ -23,31 +24,52 @@ pub(crate) fn raised(answer: Result<Answer, FloorFault>) -> Result<Answer, Scrip
     Ok(answer?)
 }
 
+// The lines of a script from a start on, each as what it reads as. A last line that does not end is no call.
+#[derive(Drop)]
+struct Calls<'a> {
+    script: &'a [u8],
+    start: usize,
+}
+
+impl Iterator for Calls<'_> {
+    type Item = Option<Call>;
+
+    ghost next_gives = { YieldsFirst (λ s. reads_from s.start s.script.now) };
+
+    ghost remaining = { item_count (λ s. reads_from s.start s.script.now) };
+
+    #[tactic(auto, using(crate::proofs::PlayFacts::left_alone))]
+    fn next(&mut self) -> Option<Option<Call>> {
+        if self.start >= self.script.len() {
+            return None;
+        }
+        let Some(line) = next_line(self.script, self.start) else {
+            self.start = self.script.len();
+            return Some(None);
+        };
+        self.start = line.next;
+        Some(read_call(line.text))
+    }
+}
+
 // Makes the calls from a start on, the first of them line 2, and adds a line for each.
 pub(crate) fn play_calls<N: Network, J: Journals>(
     text: &mut String,
     floor: &mut Floor<N, J>,
     script: &[u8],
-    first: usize,
+    start: usize,
 ) -> Result<(), AllocError>
     requires { length script.now ≤ 65536 }
-    ensures text { OnOk result (string_bytes text.new ≡ string_bytes text.old ++ calls_text N.DEPTH (state floor.old) 2 (lines_of (drop first script.now)).whole (lines_of (drop first script.now)).left) }
-    ensures floor { OnOk result (state floor.new ≡ after_all N.DEPTH (state floor.old) (calls_of (lines_of (drop first script.now)).whole)) }
+    ensures text { OnOk result (string_bytes text.new ≡ string_bytes text.old ++ calls_text N.DEPTH (state floor.old) 2 (lines_of (drop start script.now)).whole (lines_of (drop start script.now)).left) }
+    ensures floor { OnOk result (state floor.new ≡ after_all N.DEPTH (state floor.old) (calls_of (lines_of (drop start script.now)).whole)) }
 {
-    let mut start = first;
-    let mut number = 2;
-    while let Some(line) = next_line(script, start) {
-        let Some(call) = read_call(line.text) else {
-            push_fault(text, bad_line(number))?;
-            return Ok(());
+    for (place, call) in (Calls { script, start }).enumerate() {
+        let number = place + 2;
+        let Some(call) = call else {
+            return push_fault(text, bad_line(number));
         };
         let answer = raised(floor.call(call));
         push_answer(text, number, answer)?;
-        start = line.next;
-        number += 1;
-    }
-    if start < script.len() {
-        push_fault(text, bad_line(number))?;
     }
     Ok(())
 }

@@ -1,50 +1,38 @@
-use Rattle.std.proofs.Common.{◌++◌, drop, string_bytes, sym, ap, ◌∙◌, append-nil, arith}
+use Rattle.std.proofs.Common.{◌+◌, ◌∷◌, drop, string_bytes, ap, ◌∙◌, inl, arith}
+use Rattle.std.specs.Iterator.Adapters.{enumerate_count, enumerate_source}
 use Rattle.floor.specs.State.{state}
 use Rattle.script.specs.Lines.{lines_of}
-use Rattle.script.specs.Rehearsal.{raised}
-use Rattle.script.specs.Texts.{fault_text}
-use Rattle.script.proofs.PlayFacts.{calls_end, calls_step, end_left, end_none, text_end, text_step}
+use Rattle.script.specs.Rehearsal.{raised, reads_from}
+use Rattle.script.proofs.PlayFacts.{at_call, at_start, reads_from-few}
 use Rattle.script.proofs.calls.play_calls.Goals as goal
 
-pub loop-line-preserved : goal.loop-line-preserved
-loop-line-preserved g c =
-    let depth = g.N.Network.DEPTH in
-    let s = state c.loop-line.floor in
-    let script = c.args.script.now in
-    let k = c.loop-line.number in
-    let at = c.in-Some.ensures.1 in
-    let lines = lines_of (drop c.loop-line.start script) in
-    let rest = lines_of (drop c.in-Some.line.next script) in
-    let read = sym c.in-Some-read_call.ensures.value in
-    let told = c.raised-answer.ensures ∙ ap raised c.call.ensures.answer in (
-      text_step depth s k lines rest _ at.first _ read _ _ told c.call.ensures.after _ (string_bytes c.loop-line.text) _ c.loop-line.invariant.0 c.in_ok-push_answer.ensures,
-      calls_step depth s k lines rest _ at.first _ read _ _ told c.call.ensures.after _ c.loop-line.invariant.1,
-      omega (arith, at.behind),
-    )
+pub loop-place-init-derived : goal.loop-place-init-derived
+loop-place-init-derived g c =
+    let few = reads_from-few c.args.start c.args.script.now in
+    let begun = c.enumerate-place-items.ensures in
+    rw (c.into_iter-place-iterator.ensures.into_iter_gives, begun.source, begun.count) ((tt, tt, inl (omega arith)), tt)
 
-pub returns-in_ok-push_fault-2 : goal.returns-in_ok-push_fault-2
-returns-in_ok-push_fault-2 g c =
-    let depth = g.N.Network.DEPTH in
-    let s = state c.loop-line.floor in
-    let script = c.args.script.now in
-    let k = c.loop-line.number in
-    let none = c.in_default.ensures in
-    let lines = lines_of (drop c.loop-line.start script) in
-    record {
-      text = text_end depth s k lines none _ _ _ _ c.loop-line.invariant.0 (end_left k c.loop-line.start script c.if-start-script.true none) (c.in_ok-push_fault-2.ensures ∙ ap (λ fault. string_bytes c.loop-line.text ++ fault_text fault.line fault.refusal) c.bad_line-then-start-script.ensures);
-      floor = calls_end depth s k lines none _ c.loop-line.invariant.1;
-    }
+pub loop-place-init : goal.loop-place-init
+loop-place-init g c =
+    let few = reads_from-few c.args.start c.args.script.now in
+    let begun = c.enumerate-place-items.ensures in
+    let all = lines_of (drop c.args.start c.args.script.now) in
+    rw (c.into_iter-place-iterator.ensures.into_iter_gives, begun.source, begun.count)
+    ((tt, tt, inl (omega arith)), tt, at_start g.N.Network.DEPTH (state c.args.floor.now) all (string_bytes c.args.text.now) (omega arith))
 
-pub returns-else-start-script : goal.returns-else-start-script
-returns-else-start-script g c =
-    let depth = g.N.Network.DEPTH in
-    let s = state c.loop-line.floor in
-    let script = c.args.script.now in
-    let k = c.loop-line.number in
-    let none = c.in_default.ensures in
-    let lines = lines_of (drop c.loop-line.start script) in
-    let text = string_bytes c.loop-line.text in
-    record {
-      text = text_end depth s k lines none _ _ text text c.loop-line.invariant.0 (end_none k c.loop-line.start script c.if-start-script.false) (sym (append-nil text));
-      floor = calls_end depth s k lines none _ c.loop-line.invariant.1;
-    }
+pub overflow_add-number : goal.overflow_add-number
+overflow_add-number g c =
+    let few = c.loop-place.invariant.2.few in
+    let at = c.in-Some.ensures.steps.1 in
+    omega arith
+
+pub loop-place-preserved : goal.loop-place-preserved
+loop-place-preserved g c =
+    let step = c.in-Some.ensures.steps in
+    let calls = enumerate_source c.next.new.self in
+    let more = reads_from calls.start calls.script.now in
+    let all = lines_of (drop c.args.start c.args.script.now) in
+    let k = enumerate_count c.loop-place.place-iterator + 2 in
+    let next = enumerate_count c.next.new.self + 2 in
+    let left = at_call g.N.Network.DEPTH (state c.args.floor.now) all (string_bytes c.args.text.now) (state c.loop-place.floor) k _ (string_bytes c.loop-place.text) c.loop-place.invariant.2 c.in-Some-call.call more c.raised-answer.result (state c.call.new.self) (c.in-Some.place + 2) next (string_bytes c.push_answer.new.text) (step.0 ∙ ap (λ read. read ∷ more) c.in-Some-call.is) (ap (λ n. n + 2) step.1) (omega (arith, step.2)) (c.raised-answer.ensures ∙ ap raised c.call.ensures.answer) c.call.ensures.after c.in_ok-push_answer.ensures in
+    ((tt, tt, inl (let few = left.few in omega arith)), tt, left)
