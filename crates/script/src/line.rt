@@ -18,6 +18,7 @@ fn line_len(bytes: &[u8]) -> Option<usize>
 }
 
 // The line that starts there, where one does that ends.
+#[tactic(auto, using(crate::proofs::LineFacts::no_line_from))]
 pub fn next_line(script: &[u8], start: usize) -> Option<Line<'_>>
     ensures { MatchOption result ((lines_of (drop start script.now)).whole ≡ []) (λ line. (line.start ≡ start) × LineAt script.now start line.text.now line.next) }
 {

@@ -25,6 +25,7 @@ fn two_fields(fields: &[u8]) -> Option<(u8, u8)>
 }
 
 // The call that a line is, where it is one. A line that reads is the one that would be written.
+#[tactic(auto, using(crate::proofs::ReadFacts::line_written))]
 pub fn read_call(line: &[u8]) -> Option<Call>
     ensures value { result ≡ read_call line.now }
     ensures written { IfSome result (λ call. line.now ≡ call_line call) }

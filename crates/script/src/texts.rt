@@ -74,6 +74,7 @@ fn push_ledger<N: Network, J: Journals>(
 }
 
 // Adds how the ledgers stand at the end, and the message total.
+#[tactic(auto, using(crate::proofs::TextFacts::texts_none, crate::proofs::TextFacts::texts_more))]
 pub(crate) fn push_end<N: Network, J: Journals>(
     text: &mut String,
     floor: &Floor<N, J>,
