@@ -1,5 +1,5 @@
 // How a script starts: its first line, and the floor that this opens.
-ghost use Rattle.std.specs.Prelude.{◌≡◌, ◌≤◌, length, drop, IfOk, Ok, Err, MatchResult};
+ghost use Rattle.std.specs.Prelude.{◌≡◌, ◌≤◌, length, take, drop, IfSome, IfOk, Ok, Err, MatchResult};
 ghost use Rattle.floor.specs.State.{state};
 ghost use Rattle.protocol.specs.Opening.{closed, open_after, open_answer};
 ghost use Rattle.script.specs.First.{first_of};
@@ -13,9 +13,21 @@ use floor::floor::Floor;
 use floor::opening::Opening;
 use journals::set::Journals;
 use network::link::Network;
+use std::alloc::Global;
+use std::io;
+use std::io::Read;
 
 // The most bytes that a script has.
 pub const LIMIT: usize = 65_536;
+
+// Reads a script. One byte more than a script may have shows that it is too long.
+pub fn read_script<R: Read + Drop>(heap: Global, source: R) -> io::Result<Vec<u8>>
+    ensures { IfOk result (λ script. IfSome (R.remaining source) (λ bytes. script.items ≡ take 65537 bytes)) }
+{
+    let mut script = Vec::new(heap);
+    source.take(LIMIT as u64 + 1).read_to_end(&mut script)?;
+    Ok(script)
+}
 
 // What the first line tells, and where the second one starts.
 #[derive(Drop)]
