@@ -3,8 +3,8 @@
 
 use lanes::Lanes;
 use ledgers::fault::Fault;
-use network::fault::NetworkFault;
-use network::link::Network;
+use network::fault::{NetworkFault, NetworkRefusal};
+use network::link::{Link, Network};
 use network::message::{Decision, Message, Vote};
 use pool::Pool;
 use std::io;
@@ -12,66 +12,48 @@ use std::io;
 // How many calls are made.
 const CALLS: u32 = 300;
 
-// The refusal of a put on a full link.
-const LINK_FULL: u8 = 8;
+#[derive(Clone, Copy)]
+enum Deed {
+    Put(Message),
+    Take,
+    Look,
+    Count,
+}
 
 #[derive(Clone, Copy)]
-enum Call {
-    Put(u8, u8, Message),
-    Take(u8, u8),
-    Look(u8, u8),
-    Count(u8, u8),
+struct Call {
+    link: Link,
+    deed: Deed,
 }
 
-// What a call came to: the refusal's number, or 0, and what was answered, as a number.
-#[derive(Clone, Copy)]
-struct Outcome {
-    refusal: u8,
-    answer: usize,
+// What a call answers where it is taken.
+#[derive(Clone, Copy, PartialEq, Eq)]
+enum Answer {
+    Done,
+    Passed(Message),
+    Counted(usize),
 }
 
-fn of_message(returned: Result<Message, NetworkFault>) -> Outcome {
-    match returned {
-        Ok(message) => Outcome {
-            refusal: 0,
-            answer: message.kind() as usize,
-        },
-        Err(fault) => Outcome {
-            refusal: fault.number(),
-            answer: 0,
-        },
-    }
+fn perform<N: Network>(network: &mut N, call: Call) -> Result<Answer, NetworkFault> {
+    let Link { sender, receiver } = call.link;
+    Ok(match call.deed {
+        Deed::Put(message) => {
+            network.put(sender, receiver, message)?;
+            Answer::Done
+        }
+        Deed::Take => Answer::Passed(network.take(sender, receiver)?),
+        Deed::Look => Answer::Passed(network.look(sender, receiver)?),
+        Deed::Count => Answer::Counted(network.count(sender, receiver)?),
+    })
 }
 
-fn of_number(returned: Result<usize, NetworkFault>) -> Outcome {
-    match returned {
-        Ok(answer) => Outcome { refusal: 0, answer },
-        Err(fault) => Outcome {
-            refusal: fault.number(),
-            answer: 0,
-        },
-    }
-}
-
-fn of_nothing(returned: Result<(), NetworkFault>) -> Outcome {
-    match returned {
-        Ok(()) => Outcome {
-            refusal: 0,
-            answer: 0,
-        },
-        Err(fault) => Outcome {
-            refusal: fault.number(),
-            answer: 0,
-        },
-    }
-}
-
-fn perform<N: Network>(network: &mut N, call: Call) -> Outcome {
-    match call {
-        Call::Put(sender, receiver, message) => of_nothing(network.put(sender, receiver, message)),
-        Call::Take(sender, receiver) => of_message(network.take(sender, receiver)),
-        Call::Look(sender, receiver) => of_message(network.look(sender, receiver)),
-        Call::Count(sender, receiver) => of_number(network.count(sender, receiver)),
+// What is printed of an outcome: the refusal's number and the answer's, each 0 where there is none.
+fn printed(outcome: Result<Answer, NetworkFault>) -> (u8, usize) {
+    match outcome {
+        Ok(Answer::Done) => (0, 0),
+        Ok(Answer::Passed(message)) => (0, message.kind() as usize),
+        Ok(Answer::Counted(count)) => (0, count),
+        Err(fault) => (fault.number(), 0),
     }
 }
 
@@ -90,25 +72,17 @@ fn message_of(bits: u32) -> Message {
 
 // A call that the bits pick: mostly on a few links, now and then on what is no link.
 fn call_of(bits: u32) -> Call {
-    let sender = (bits / 8 % 3) as u8;
-    let receiver = (bits / 64 % 4) as u8;
-    match bits / 512 % 8 {
-        0..=3 => Call::Put(sender, receiver, message_of(bits / 4096)),
-        4 | 5 => Call::Take(sender, receiver),
-        6 => Call::Look(sender, receiver),
-        _ => Call::Count(sender, receiver),
-    }
-}
-
-// The number of messages on the link that a call names.
-fn held<N: Network>(network: &N, call: Call) -> usize {
-    let (sender, receiver) = match call {
-        Call::Put(sender, receiver, _) => (sender, receiver),
-        Call::Take(sender, receiver) => (sender, receiver),
-        Call::Look(sender, receiver) => (sender, receiver),
-        Call::Count(sender, receiver) => (sender, receiver),
+    let link = Link {
+        sender: (bits / 8 % 3) as u8,
+        receiver: (bits / 64 % 4) as u8,
     };
-    of_number(network.count(sender, receiver)).answer
+    let deed = match bits / 512 % 8 {
+        0..=3 => Deed::Put(message_of(bits / 4096)),
+        4 | 5 => Deed::Take,
+        6 => Deed::Look,
+        _ => Deed::Count,
+    };
+    Call { link, deed }
 }
 
 fn main(rt: HostRuntime) -> io::Result<()> {
@@ -120,15 +94,17 @@ fn main(rt: HostRuntime) -> io::Result<()> {
         bits = bits.wrapping_mul(1664525).wrapping_add(1013904223);
         let call = call_of(bits / 256);
         let a = perform(&mut pool, call);
-        if a.refusal == LINK_FULL {
+        if a.is_err_and(|fault| fault.refusal == NetworkRefusal::LinkFull) {
             // The lanes would take it; they are spared it, so that later calls still compare.
-            let n = held(&lanes, call);
+            let n = lanes
+                .count(call.link.sender, call.link.receiver)
+                .unwrap_or(0);
             println!(rt; "call {number}: the pool's link is full, the lanes hold {n} of {depth}")?;
             continue;
         }
         let b = perform(&mut lanes, call);
-        if a.refusal != b.refusal || a.answer != b.answer {
-            let (x, y, u, v) = (a.refusal, a.answer, b.refusal, b.answer);
+        if a != b {
+            let ((x, y), (u, v)) = (printed(a), printed(b));
             println!(rt; "call {number}: pool {x} {y}, lanes {u} {v}")?;
         }
     }
