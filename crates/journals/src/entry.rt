@@ -5,8 +5,9 @@ ghost use Rattle.journals.specs.Codes.{Decodes, code_of, decides};
 use std::error::Error;
 use std::fmt;
 
-#[derive(Clone, Copy, Debug, PartialEq, Eq)]
+#[derive(Clone, Copy, Debug, Default, PartialEq, Eq)]
 pub enum Entry {
+    #[default]
     Begin = 1,
     ReadyYes = 2,
     ReadyNo = 3,

@@ -1,22 +1,16 @@
 // The rows: a set of journals that keeps one row for each ledger.
-ghost use Rattle.std.specs.Prelude.{◌≡◌, ◌≤◌, length};
+ghost use Rattle.std.specs.Prelude.{◌≡◌, ℕ, ◌≤◌, [], length, slice_index_or};
 
 use crate::entry::Entry;
 use crate::limits::{ENTRIES, LEDGERS};
+use arrayvec::ArrayVec;
 
 mod calls;
 
-// What one ledger wrote: the first `len` of its places.
-#[derive(Clone, Copy)]
-struct Row {
-    entries: [Entry; ENTRIES],
-    len: usize,
-    ghost whole: { length entries ≡ 8 },
-    ghost within: { len ≤ 8 },
-}
-
 #[derive(Drop)]
 pub struct Rows {
-    rows: [Row; LEDGERS],
+    // What each ledger wrote.
+    rows: [ArrayVec<Entry, ENTRIES>; LEDGERS],
     ghost whole: { length rows ≡ 8 },
+    ghost short: { (p : ℕ) → length (slice_index_or rows p (record { items = [] })).items ≤ 8 },
 }

@@ -1,6 +1,6 @@
 -- Laying records as bytes and reading them back.
-use Rattle.std.proofs.Common.{◌≡◌, ℕ, ◌+◌, ◌*◌, ◌/◌, ◌%◌, ◌<◌, ◌≤◌, Bool, true, false, cond, ◌&&◌, eqb, ltb, leb, List, [], ◌∷◌, ◌++◌, length, get_or, drop, is_ok, Ok, Err, sym, refl, ap, ◌∙◌, append_assoc, add_assoc, mul-suc, arith}
-use Rattle.std.proofs.lemmas.List.{append-nil, drop_more}
+use Rattle.std.proofs.Common.{◌≡◌, ℕ, ◌+◌, ◌*◌, ◌/◌, ◌%◌, ◌<◌, ◌≤◌, Bool, true, false, cond, ◌&&◌, eqb, ltb, leb, List, [], ◌∷◌, ◌++◌, length, get_or, take, drop, is_ok, Ok, Err, sym, refl, ap, ◌∙◌, append_assoc, mul-suc, arith}
+use Rattle.std.proofs.lemmas.List.{append-nil}
 use Rattle.std.proofs.lemmas.Bool.{and_parts, and_from, eq-eqb, eqb-true, le-leb, lt-ltb}
 use Rattle.tape.specs.Bytes.{trailer, record_bytes, laid_after, laid, is_next, read_after, read_tape, whole_length}
 use Rattle.journals.specs.Calls.{Entries, append_answer}
@@ -109,14 +109,18 @@ pub read_whole : (bytes : List ℕ) → length bytes ≤ 256 → length bytes % 
 read_whole bytes short even =
     rw (le-leb (length bytes) 256 short, eq-eqb (length bytes % 4) 0 even)
 
--- one step of reading, at the place where a record starts
-pub read_step : (before : List Record) (bytes : List ℕ) (start : ℕ) → start + 3 < length bytes → read_after before (drop start bytes) ≡ cond (is_next before (get_or bytes start 0) (get_or bytes (start + 1) 0) (get_or bytes (start + 2) 0) (get_or bytes (start + 3) 0)) (read_after (before ++ (record { ledger = get_or bytes start 0; code = get_or bytes (start + 1) 0 } ∷ [])) (drop (start + 4) bytes)) (Err (4 * length before))
-read_step before bytes start long = ap (read_after before) four
+-- one step of reading: the four bytes at the front of what is left, and the rest
+pub read_step : (before : List Record) (left front rest : List ℕ) → front ≡ take 4 left → rest ≡ drop 4 left → length rest + 4 ≡ length left → read_after before left ≡ cond (is_next before (get_or front 0 0) (get_or front 1 0) (get_or front 2 0) (get_or front 3 0)) (read_after (before ++ (record { ledger = get_or front 0 0; code = get_or front 1 0 } ∷ [])) rest) (Err (4 * length before))
+read_step before left front rest first last long = rw (first, last) (whole left (omega arith))
   where
-    four : drop start bytes ≡ get_or bytes start 0 ∷ (get_or bytes (start + 1) 0 ∷ (get_or bytes (start + 2) 0 ∷ (get_or bytes (start + 3) 0 ∷ drop (start + 4) bytes)))
-    four =
-        let one = drop_more bytes start 0 (omega arith) in
-        let two = rw add_assoc at (drop_more bytes (start + 1) 0 (omega arith)) in
-        let three = rw add_assoc at (drop_more bytes (start + 2) 0 (omega arith)) in
-        let last = rw add_assoc at (drop_more bytes (start + 3) 0 (omega arith)) in
-        cc
+    whole : (xs : List ℕ) → 4 ≤ length xs → read_after before xs ≡ cond (is_next before (get_or (take 4 xs) 0 0) (get_or (take 4 xs) 1 0) (get_or (take 4 xs) 2 0) (get_or (take 4 xs) 3 0)) (read_after (before ++ (record { ledger = get_or (take 4 xs) 0 0; code = get_or (take 4 xs) 1 0 } ∷ [])) (drop 4 xs)) (Err (4 * length before))
+    whole [] four = absurd (omega arith)
+    whole (a ∷ []) four = absurd (omega arith)
+    whole (a ∷ (b ∷ [])) four = absurd (omega arith)
+    whole (a ∷ (b ∷ (c ∷ []))) four = absurd (omega arith)
+    whole (a ∷ (b ∷ (c ∷ (d ∷ xs')))) four = refl
+
+-- nothing is left of a tape in whole records
+pub nothing_left : (xs : List ℕ) → length xs ≡ 0 → xs ≡ []
+nothing_left [] none = refl
+nothing_left (x ∷ xs) none = absurd (omega arith)

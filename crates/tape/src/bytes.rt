@@ -44,17 +44,15 @@ impl Tape {
             return Err(JournalsFault::torn(bytes.len()));
         }
         let mut tape = Tape::new();
-        let mut start = 0;
-        while start < bytes.len() {
-            if !tape.read_record(
-                bytes[start],
-                bytes[start + 1],
-                bytes[start + 2],
-                bytes[start + 3],
-            ) {
-                return Err(JournalsFault::torn(start));
+        let mut left = bytes;
+        while let Some((&[ledger, code, low, high], rest)) = left.split_first_chunk::<
+            RECORD_BYTES,
+        >()
+        {
+            if !tape.read_record(ledger, code, low, high) {
+                return Err(JournalsFault::torn(RECORD_BYTES * tape.len()));
             }
-            start += RECORD_BYTES;
+            left = rest;
         }
         Ok(tape)
     }
