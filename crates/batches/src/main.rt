@@ -3,14 +3,15 @@
 
 use floor::floor::Floor;
 use floor::opening::Opening;
+use journals::codes::codes;
 use journals::rows::Rows;
 use journals::set::Journals;
 use lanes::Lanes;
+use ledgers::fault::Fault;
 use network::link::Network;
 use pool::Pool;
 use protocol::call::{Answer, Call};
 use protocol::delivery::Delivery;
-use protocol::fault::FloorFault;
 use protocol::recovery::Recovery;
 use std::io;
 use tape::Tape;
@@ -84,28 +85,21 @@ fn print_call(rt: &HostRuntime, call: Call) -> io::Result<()> {
     }
 }
 
-fn print_answer(rt: &HostRuntime, answer: Result<Answer, FloorFault>) -> io::Result<()> {
+fn answer_word(answer: Answer) -> &'static str {
     match answer {
-        Ok(Answer::Done) => println!(rt; "done"),
-        Ok(Answer::Message(Delivery::Delivered)) => println!(rt; "delivered"),
-        Ok(Answer::Message(Delivery::Discarded)) => println!(rt; "discarded"),
-        Ok(Answer::Recovered(Recovery::Posted)) => println!(rt; "posted"),
-        Ok(Answer::Recovered(Recovery::Dropped)) => println!(rt; "dropped"),
-        Ok(Answer::Recovered(Recovery::Uncertain)) => println!(rt; "uncertain"),
-        Err(fault) => println!(rt; "refused with {}", fault.number()),
+        Answer::Done => "done",
+        Answer::Message(Delivery::Delivered) => "delivered",
+        Answer::Message(Delivery::Discarded) => "discarded",
+        Answer::Recovered(Recovery::Posted) => "posted",
+        Answer::Recovered(Recovery::Dropped) => "dropped",
+        Answer::Recovered(Recovery::Uncertain) => "uncertain",
     }
 }
 
-fn print_journal<N: Network, J: Journals>(
-    rt: &HostRuntime,
-    floor: &Floor<N, J>,
-    ledger: u8,
-) -> io::Result<()> {
+fn print_journal(rt: &HostRuntime, journals: &impl Journals, ledger: u8) -> io::Result<()> {
     print!(rt; "ledger {ledger} wrote")?;
-    for place in 0..8 {
-        if let Ok(code) = floor.read(ledger, place) {
-            print!(rt; " {code}")?;
-        }
+    for code in codes(journals, ledger) {
+        print!(rt; " {code}")?;
     }
     println!(rt)
 }
@@ -122,16 +116,19 @@ fn run<N: Network + Drop, J: Journals + Drop>(
     }
     for call in calls {
         print_call(rt, *call)?;
-        print_answer(rt, floor.call(*call))?;
+        match floor.call(*call) {
+            Ok(answer) => println!(rt; "{}", answer_word(answer))?,
+            Err(fault) => println!(rt; "refused with {}", fault.number())?,
+        }
     }
-    print_journal(rt, &floor, 0)?;
-    print_journal(rt, &floor, 1)?;
+    for ledger in 0..2 {
+        if let Ok(journals) = floor.journals_with(ledger) {
+            print_journal(rt, journals, ledger)?;
+        }
+    }
     println!(rt; "messages sent: {}", floor.total())?;
-    if floor.is_at_rest() {
-        println!(rt; "at rest: yes")
-    } else {
-        println!(rt; "at rest: no")
-    }
+    let rest = if floor.is_at_rest() { "yes" } else { "no" };
+    println!(rt; "at rest: {rest}")
 }
 
 fn main(rt: HostRuntime) -> io::Result<()> {
