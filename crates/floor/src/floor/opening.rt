@@ -33,7 +33,7 @@ fn is_vote(number: u8) -> bool
 fn votes_fit(votes: &[u8]) -> bool
     ensures { result ≡ votes_fit votes.now }
 {
-    (0..8).all(|ledger| is_vote(number_at(votes, ledger)))
+    (0..LEDGERS).all(|ledger| is_vote(number_at(votes, ledger)))
 }
 
 fn vote_at(votes: &[u8], ledger: usize) -> Vote

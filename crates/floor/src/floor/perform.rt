@@ -26,21 +26,14 @@ impl<N: Network, J: Journals> Floor<N, J> {
         ensures after { state self.new ≡ perform_after N.DEPTH (state self.old) ledger response.row response.effect }
     {
         match response.effect {
-            Effect::Nothing => {
-                self.store(ledger, response.row);
-                Ok(())
-            }
-            Effect::Write(entry) => {
-                self.journals.append(ledger, entry.code())?;
-                self.store(ledger, response.row);
-                Ok(())
-            }
+            Effect::Nothing => {}
+            Effect::Write(entry) => self.journals.append(ledger, entry.code())?,
             Effect::Send(receiver, message) => {
                 self.network.put(ledger, receiver, message)?;
                 self.sent = self.sent.saturating_add(1);
-                self.store(ledger, response.row);
-                Ok(())
             }
         }
+        self.store(ledger, response.row);
+        Ok(())
     }
 }
