@@ -1,10 +1,9 @@
 -- Every call is lawful, whatever it is and whatever the state.
-use Rattle.std.proofs.Common.{◌≡◌, ℕ, Bool, true, false, cond, not, ◌&&◌, eqb, ◌≢◌, List, [], ◌∷◌, ◌++◌, drop, is_some, IfSome, is_ok, is_err, IfOk, Some, None, Ok, Err, Option, Result, sym, refl, ap, ◌∙◌, subst, append-nil, arith}
+use Rattle.std.proofs.Common.{◌≡◌, ℕ, Bool, true, false, cond, not, ◌&&◌, eqb, ◌≢◌, List, [], ◌∷◌, ◌++◌, drop, is_some, IfSome, is_ok, is_err, IfOk, None, Ok, Err, Option, Result, refl, ap, ◌∙◌, subst, arith}
 use Rattle.std.proofs.Math.Path.{subst₂}
 use Rattle.std.proofs.lemmas.Bool.{and_parts}
 use Rattle.std.proofs.lemmas.Bool.Decides.{nat_tests}
 use Rattle.std.specs.Option.{ok_or}
-use Rattle.network.proofs.LinkFacts.{own_link}
 use Rattle.network.specs.Links.{Links, look_answer, take_after, with_link}
 use Rattle.network.specs.declared.fault.NetworkFault.{NetworkFault}
 use Rattle.network.specs.declared.message.Decision.{Decision}
@@ -44,18 +43,14 @@ taken_there : (L : Links) (q p a b : ℕ) → take_after L q p a b ≡ less_firs
 taken_there L q p a b = by_test (is_ok (look_answer L q p))
   where
     by_test : (found : Bool) → cond found (with_link L q p (drop 1 (L q p))) L a b ≡ less_first (found && (eqb q a && eqb p b)) (L a b)
-    by_test true = sym (own_link L (drop 1) q p a b)
-    by_test false = refl
+    by_test found = grind (arith, nat_tests)
 
 -- where something is gone from the front, nothing came behind
 less_then_more : (gone : Bool) (xs ys : List Message) → (gone ≡ true → ys ≡ []) → less_first gone (xs ++ ys) ≡ less_first gone xs ++ ys
-less_then_more true xs ys none =
-    ap (λ zs. drop 1 (xs ++ zs)) (none refl) ∙ ap (drop 1) (append-nil xs) ∙ sym (append-nil (drop 1 xs)) ∙ ap (λ zs. drop 1 xs ++ zs) (sym (none refl))
-less_then_more false xs ys none = refl
+less_then_more gone xs ys none = grind (arith, nat_tests)
 
 not_taken : (took : Bool) (list : List Message) → less_first (took && false) list ≡ list
-not_taken true list = refl
-not_taken false list = refl
+not_taken took list = grind (arith, nat_tests)
 
 -- after what p did, the first message from q is gone
 then_taken : (s t : State) (q p : ℕ) (refused : Bool) → q ≢ p → Lawful p (λ a b. false) refused s t → Lawful p (λ a b. eqb q a && eqb p b) false s (without_first t q p)
@@ -84,12 +79,10 @@ then_taken s t q p refused differ law = record {
         ∙ less_then_more (found && (eqb q a && eqb p b)) (s.links a b) more (λ gone. not_onto p a b law.exchange.sent (λ same. grind (arith, nat_tests)))
 
 made_check : {A E : Type 0} (P : A → Type 0) (test : Bool) (refusal : E) (rest : Result A E) → (test ≡ true → IfOk rest P) → IfOk (check test refusal rest) P
-made_check P true refusal rest then = then refl
-made_check P false refusal rest then = tt
+made_check P test refusal rest then = grind (arith, nat_tests)
 
 made_found : {A E : Type 0} (P : A → Type 0) (found : Option A) (refusal : E) → IfSome found P → IfOk (ok_or found refusal) P
-made_found P None refusal here = tt
-made_found P (Some x) refusal here = here
+made_found P found refusal here = grind (arith, nat_tests)
 
 module _ (s : State) (p : ℕ) where
   -- what p found to do leaves its row steady
@@ -117,8 +110,7 @@ module _ (s : State) (p : ℕ) where
       (λ _. undecided_steady row _ (unheld (held row.stage) (and_parts (not (is_some (held row.stage))) (not (eqb p 0 && initial row.stage)) waiting).0) (expiry_status (member_of s p) row q)))))
     where
       unheld : (own : Option Decision) → not (is_some own) ≡ true → own ≡ None
-      unheld None e = refl
-      unheld (Some decision) e = grind arith
+      unheld own e = grind (arith, nat_tests)
 
 begin_of_steady : (s : State) → IfOk (begin_of s) (Steadily s 0)
 begin_of_steady s =
@@ -126,16 +118,13 @@ begin_of_steady s =
     (made_check (Steadily s 0) (initial (row_of s 0).stage) Begun _ (λ test. undecided_steady (row_of s 0) _ (initial_undecided (row_of s 0).stage test) refl))
 
 answered_err : {A : Type 0} (x : A) (answer : Result Unit FloorFault) → is_err answer ≡ is_err (answered x answer)
-answered_err x (Ok y) = refl
-answered_err x (Err fault) = refl
+answered_err x answer = grind (arith, nat_tests)
 
 met_err : (answer : Result Delivery FloorFault) → is_err answer ≡ is_err (met answer)
-met_err (Ok y) = refl
-met_err (Err fault) = refl
+met_err answer = grind (arith, nat_tests)
 
 recovered_err : (answer : Result Recovery FloorFault) → is_err answer ≡ is_err (recovered answer)
-recovered_err (Ok y) = refl
-recovered_err (Err fault) = refl
+recovered_err answer = grind (arith, nat_tests)
 
 module _ (depth : ℕ) (s : State) where
   carried : (p q : ℕ) (named : ℕ → ℕ → Bool) (plan : Result Response FloorRefusal) → IfOk plan (Steadily s p) → Lawful p named (is_err (do_answer depth s p q plan)) s (do_after depth s p plan)

@@ -1,4 +1,3 @@
-pub mod AllBelow
 pub mod Lawful
 pub mod LawfulCalls
 pub mod NotesBelow

@@ -1,6 +1,5 @@
 -- How a loop over the ledgers comes to all notes.
-use Rattle.std.proofs.Common.{◌≡◌, ℕ, suc, ◌+◌, ◌<◌, List, [], ◌∷◌, ◌++◌, length, take, set, sym, refl, ap, ◌∙◌, append-nil, add-one}
-use Rattle.std.proofs.lemmas.List.{take_more_set}
+use Rattle.std.proofs.Common.{◌≡◌, ℕ, suc, ◌+◌, List, [], ◌++◌, sym, refl, ap, ◌∙◌, append-nil, add-one}
 use Rattle.protocol.specs.State.{State}
 use Rattle.protocol.specs.Worklist.{note_of, notes_below}
 use Rattle.protocol.specs.declared.note.Note.{Note}
@@ -15,11 +14,6 @@ notes_suc s p = refl
 
 pub notes_next : (s : State) (p : ℕ) → notes_below s (p + 1) ≡ notes_below s p ++ note_of s p
 notes_next s p = ap (notes_below s) (add-one p) ∙ notes_suc s p
-
--- a note more is written behind those that were found
-pub one_more : (s : State) (p count : ℕ) (notes : List Note) (note : Note) → take count notes ≡ notes_below s p → note ∷ [] ≡ note_of s p → count < length notes → take (count + 1) (set notes count note) ≡ notes_below s (p + 1)
-one_more s p count notes note so_far here room =
-    take_more_set notes count note room ∙ ap (λ front. front ++ (note ∷ [])) so_far ∙ ap (λ more. notes_below s p ++ more) here ∙ sym (notes_next s p)
 
 pub none_more : (s : State) (p : ℕ) (front : List Note) → front ≡ notes_below s p → [] ≡ note_of s p → front ≡ notes_below s (p + 1)
 none_more s p front so_far here = so_far ∙ sym (append-nil (notes_below s p)) ∙ ap (λ more. notes_below s p ++ more) here ∙ sym (notes_next s p)
