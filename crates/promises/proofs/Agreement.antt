@@ -1,6 +1,6 @@
 -- If every expiry is on time, no two journals hold opposite decisions and none holds a dispute.
-use Rattle.std.proofs.Common.{◌≡◌, ℕ, ◌<◌, ◌≤◌, Bool, true, false, not, ◌&&◌, ◌||◌, List, sym, refl, ap, ⊎_elim, arith}
-use Rattle.std.proofs.lemmas.Bool.{and_parts, both_ways, cases_Bool, eqb-true, not-true, or_parts, or_right}
+use Rattle.std.proofs.Common.{◌≡◌, ℕ, ◌<◌, ◌≤◌, Bool, true, false, not, ◌&&◌, ◌||◌, List, sym, ap, ⊎_elim, arith}
+use Rattle.std.proofs.lemmas.Bool.{both_ways, cases_Bool, eqb-true, not-true, or_parts, or_right}
 use Rattle.network.specs.declared.message.Vote.{Vote}
 use Rattle.rules.specs.declared.effect.Response.{Response}
 use Rattle.protocol.specs.Bounded.{all_below}
@@ -12,28 +12,24 @@ use Rattle.protocol.specs.declared.call.Call.TheVariants.{Begin, Step, Deliver, 
 use Rattle.promises.specs.Promises.{Agreement}
 use Rattle.promises.specs.Runs.{early, happened, new, taken}
 use Rattle.promises.proofs.Between.{Turn, turns_with}
-use Rattle.promises.proofs.Did.{expiring, notices}
+use Rattle.promises.proofs.Did.{expiring}
 use Rattle.promises.proofs.Each.{each_after}
 use Rattle.promises.proofs.Moves.{Cause, Input, expires}
 use Rattle.promises.proofs.Quiet.{below, clear_empty}
 use Rattle.promises.proofs.Rounds.{Rounds, rounds_new, rounds_then}
-use Rattle.promises.proofs.Sets.{in_empty}
 use Rattle.promises.proofs.Spread.{Posted, posted_new, posted_then}
 use Rattle.promises.proofs.Timely.{OnTime, Timely, timely_then}
-use Rattle.promises.proofs.Wanted.{Wanted, row_of_new, wanted_new, wanted_then}
-
-notices_expiring : (input : Input) (q : ℕ) → notices input q ≡ true → expiring input ≡ true
-notices_expiring input q e = grind arith
+use Rattle.promises.proofs.Wanted.{Wanted, wanted_new, wanted_then}
 
 no_expiry : (n : ℕ) (s : State) (input : Input) → expiring input ≡ false → OnTime n s input
-no_expiry n s input quiet = record { halted = λ q e. absurd (both_ways _ quiet (notices_expiring input q e)); silent = λ e. absurd (both_ways _ quiet e) }
+no_expiry n s input quiet = grind arith
 
 timely_expiry : (n : ℕ) (s : State) (q : ℕ) → s.ledgers ≡ n → n ≤ 8 → on_time s q ≡ true → OnTime n s (expires q)
 timely_expiry n s q same few e =
     record { halted = λ x is. rw (sym (eqb-true q x is)) (not-true _ parts.0); silent = λ _ a b ka kb apart stopped running. clear_empty s a b (omega arith) (omega arith) apart (by a b ka kb stopped running) }
   where
     parts : (not (alive s q) ≡ true) × (all_below (settled_from s) s.ledgers ≡ true)
-    parts = and_parts _ _ e
+    parts = grind arith
 
     by : (a b : ℕ) → a < n → b < n → alive s a ≡ false → alive s b ≡ true → clear s a b ≡ true
     by a b ka kb stopped running =
@@ -55,12 +51,7 @@ on_time_then depth n s (Stop a) p input same few cause answer e = no_expiry n s 
 on_time_then depth n s (Restart a) p input same few cause answer e = no_expiry n s input (ap expiring cause.1)
 
 timely_new : (n : ℕ) (votes : List Vote) → Timely n (new n votes)
-timely_new n votes = record {
-  noticed_gone = λ a q known running e. absurd (grind (arith, row_of_new n votes a, in_empty q));
-  witness = λ alive l known running e. absurd (grind (arith, row_of_new n votes l));
-  dead = λ a known e. absurd (grind arith);
-  calm = λ a known. refl;
-}
+timely_new n votes = grind arith
 
 -- what holds as long as no expiry was early
 abbrev Before : ℕ → List Vote → Bool → State → Type 0
@@ -71,12 +62,7 @@ module _ (depth n : ℕ) (votes : List Vote) (many : 2 ≤ n) (few : n ≤ 8) (c
   before_run = turns_with depth n votes many few early (Before n votes) none step (wanted_new n votes, rounds_new n votes, posted_new n votes, λ _. timely_new n votes) calls
     where
       none : (s : State) (call : Call) → call_after depth s call ≡ s → taken depth s call ≡ false → early depth s call ≡ false
-      none s Begin same answer = refl
-      none s (Step a) same answer = refl
-      none s (Deliver q a) same answer = refl
-      none s (Expire a q) same answer = rw answer
-      none s (Stop a) same answer = refl
-      none s (Restart a) same answer = refl
+      none s call same answer = grind arith
 
       step : (yet : Bool) (s : State) (call : Call) (p : ℕ) (input : Input) (r : Response) → Cause call p input → Turn n votes s (call_after depth s call) p input r → taken depth s call ≡ true → Before n votes yet s → Before n votes (yet || early depth s call) (call_after depth s call)
       step yet s call p input r cause t answer (w, rounds, posted, timely) =

@@ -1,7 +1,7 @@
 -- One move, seen from all ledgers.
-use Rattle.std.proofs.Common.{◌≡◌, ℕ, ◌<◌, ◌≤◌, Bool, true, false, not, ◌||◌, ◌≢◌, ◌⊎◌, List, sym, refl, ap, ◌∙◌, subst, inl, inr, ⊎_elim, arith}
+use Rattle.std.proofs.Common.{◌≡◌, ℕ, ◌<◌, ◌≤◌, Bool, true, false, not, ◌||◌, ◌≢◌, ◌⊎◌, List, refl, ap, ◌∙◌, inl, inr, ⊎_elim, arith}
 use Rattle.std.specs.List.{list_any}
-use Rattle.std.proofs.lemmas.Bool.{both_ways, cases_Bool, cases_eq, or_cases, or_left, or_right}
+use Rattle.std.proofs.lemmas.Bool.{cases_eq, or_cases, or_left, or_right}
 use Rattle.std.proofs.lemmas.Bool.Decides.{nat_tests}
 use Rattle.network.specs.declared.message.Decision.{Decision}
 use Rattle.network.specs.declared.message.Decision.TheVariants.{Post, Drop}
@@ -15,26 +15,21 @@ use Rattle.rules.specs.declared.row.Row.{Row}
 use Rattle.protocol.specs.Plans.{after_all, call_after}
 use Rattle.protocol.specs.declared.call.Call.{Call}
 use Rattle.promises.specs.Runs.{happened, new, taken}
-use Rattle.protocol.specs.State.{State, has, member_of, row_of, runs}
+use Rattle.protocol.specs.State.{State, has, row_of, runs}
 use Rattle.journals.specs.Codes.{code_of}
 use Rattle.rules.specs.Entries.{reached, received}
-use Rattle.promises.proofs.Did.{Acts, expiring, expiry_comes, has_wrote, hears_that, source, still_runs, wrote}
+use Rattle.promises.proofs.Did.{Acts, expiring, expiry_comes, has_wrote, hears_that, source, wrote}
 use Rattle.promises.proofs.Each.{AllEach, Each, each_after, each_new, me}
 use Rattle.promises.proofs.Shape.{lower_kept, lower_left}
 use Rattle.promises.proofs.Journal.{is, knows}
-use Rattle.promises.proofs.Moves.{Input, Cause, Move, Rule, Sound, every_run, plain_run, gives, given_there, has_still, still_there, takes, taken_there, there_before, written}
-
-pub takes_source : (test : Message → Bool) (input : Input) → hears_that test input ≡ true → takes test input (source input) ≡ true
-takes_source test input e = grind (arith, nat_tests)
+use Rattle.promises.proofs.Moves.{Input, Cause, Move, Sound, every_run, plain_run, gives, given_there, has_still, still_there, takes, there_before, written}
 
 -- what a running ledger holds, its journal knows
 pub holder_knows : (d : Decision) (who : Member) (row : Row) (J : List ℕ) → Each who row J → runs row.status ≡ true → is d (held row.stage) ≡ true → knows d J ≡ true
-holder_knows Post who row J each running e = (each.told running).post ∙ e
-holder_knows Drop who row J each running e = (each.told running).drop ∙ e
+holder_knows d who row J each running e = grind (arith, nat_tests)
 
 pub knower_holds : (d : Decision) (who : Member) (row : Row) (J : List ℕ) → Each who row J → runs row.status ≡ true → knows d J ≡ true → is d (held row.stage) ≡ true
-knower_holds Post who row J each running e = sym (each.told running).post ∙ e
-knower_holds Drop who row J each running e = sym (each.told running).drop ∙ e
+knower_holds d who row J each running e = grind (arith, nat_tests)
 
 -- a move of a floor of which every ledger's facts hold
 pub record Turn (n : ℕ) (votes : List Vote) (s s' : State) (p : ℕ) (input : Input) (r : Response) : Type 0 where
@@ -49,12 +44,10 @@ module _ {n : ℕ} {votes : List Vote} {s s' : State} {p : ℕ} {input : Input} 
   mine = omega (arith, t.move.known_mover, t.sound.ledgers_are)
 
   pub mover : Each (me n votes p) (row_of s p) (s.entries p)
-  mover = t.each p mine
+  mover = grind (arith, nat_tests)
 
   pub acts : Acts (me n votes p) (row_of s p) (s.entries p) input r
-  acts =
-      let same : member_of s p ≡ me n votes p = cc (t.sound.ledgers_are, t.sound.votes_are) in
-      record { by_rule = subst (λ (who : Member). Rule who (row_of s p) (s.entries p) input r) same t.move.rule }
+  acts = grind (arith, nat_tests)
 
   -- a message on its way was there before, or is given by p now; it is still there, or p takes it
   pub was_there : (test : Message → Bool) (a b : ℕ) → list_any test (s'.links a b) ≡ true → (list_any test (s.links a b) ≡ true) ⊎ ((a ≡ p) × (gives test r.effect b ≡ true))
@@ -68,7 +61,7 @@ module _ {n : ℕ} {votes : List Vote} {s s' : State} {p : ℕ} {input : Input} 
 
   -- what p hears was on its way to it
   pub heard_there : (test : Message → Bool) → hears_that test input ≡ true → list_any test (s.links (source input) p) ≡ true
-  heard_there test e = taken_there s p input r s' t.move test (source input) (takes_source test input e)
+  heard_there test e = grind (arith, nat_tests)
 
   -- what stands in a journal stood there before, or p writes it now
   pub had : (c a : ℕ) → has c (s'.entries a) ≡ true → (has c (s.entries a) ≡ true) ⊎ ((a ≡ p) × (wrote c r.effect ≡ true))
@@ -97,15 +90,13 @@ module _ {n : ℕ} {votes : List Vote} {s s' : State} {p : ℕ} {input : Input} 
 
   -- another ledger's row is as it was
   pub own_or_other : (a : ℕ) → ((a ≡ p) × (row_of s' a ≡ r.row)) ⊎ ((a ≢ p) × (row_of s' a ≡ row_of s a))
-  own_or_other a = ⊎_elim (λ (same : a ≡ p). inl (same, rw (same, t.move.changes.own_row))) (λ other. inr (other, t.move.changes.other_row a other)) (cases_eq a p)
+  own_or_other a = grind (arith, nat_tests)
 
   pub runs_before : (a : ℕ) → runs (row_of s' a).status ≡ true → runs (row_of s a).status ≡ true
-  runs_before a e =
-      ⊎_elim (λ (same : a ≡ p). rw same (still_runs acts (rw (same, t.move.changes.own_row) at e)))
-      (λ other. rw (t.move.changes.other_row a other) at e) (cases_eq a p)
+  runs_before a e = grind (arith, nat_tests)
 
   pub stopped_still : (a : ℕ) → runs (row_of s a).status ≡ false → runs (row_of s' a).status ≡ false
-  stopped_still a e = ⊎_elim (λ now. absurd (both_ways _ e (runs_before a now))) (λ still. still) (cases_Bool (runs (row_of s' a).status))
+  stopped_still a e = grind (arith, nat_tests)
 
   -- one that leads has noticed all lower ones, and one more does not change that
   pub leads_again : expiring input ≡ true → leads (row_of s p).stage ≡ true → (1 ≤ p) × (lower_left p (with_notice (row_of s p) (source input)) ≡ false)

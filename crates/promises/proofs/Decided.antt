@@ -1,6 +1,6 @@
 -- At rest every running ledger has decided, once the coordinator has begun or stopped.
 use Rattle.std.proofs.Common.{◌≡◌, ℕ, zero, suc, ◌<◌, ◌≤◌, Bool, true, false, not, ◌&&◌, ◌||◌, eqb, ◌≢◌, List, [], is_some, Some, None, Option, sym, refl, ◌∙◌, subst, ⊎_elim, arith}
-use Rattle.std.proofs.lemmas.Bool.{and_from, and_parts, both_ways, cases_Bool, cases_eq, eqb-true, false≢true, ne_eqb, not_from_false, not-true, or_cases, or_left, or_parts, or_right, and_left, and_right, not-false}
+use Rattle.std.proofs.lemmas.Bool.{and_from, and_parts, both_ways, cases_Bool, cases_eq, false≢true, ne_eqb, not_from_false, not-true, or_cases, or_left, or_parts, or_right, and_left, and_right, not-false}
 use Rattle.std.proofs.lemmas.Bool.Decides.{nat_tests}
 use Rattle.network.specs.declared.message.Decision.{Decision}
 use Rattle.network.specs.declared.message.Decision.TheVariants.{Post, Drop}
@@ -17,7 +17,6 @@ use Rattle.protocol.specs.Plans.{after_all, call_after}
 use Rattle.protocol.specs.Rest.{all_clear, at_rest, clear, clear_from, idle, on_time, patient, settled, settled_from, unmissed}
 use Rattle.protocol.specs.State.{State, has, row_of, runs}
 use Rattle.protocol.specs.declared.call.Call.{Call}
-use Rattle.protocol.specs.declared.call.Call.TheVariants.{Begin, Step, Deliver, Expire, Stop, Restart}
 use Rattle.promises.specs.Promises.{AllDecided}
 use Rattle.promises.specs.Runs.{begins as begin_taken, happened, loses_coordinator, new, taken}
 use Rattle.promises.proofs.Between.{Turn, acts, own_or_other, runs_before, sound_run, turns_with}
@@ -216,45 +215,19 @@ module _ (depth n : ℕ) (votes : List Vote) (many : 2 ≤ n) (few : n ≤ 8) (c
   begun_run = started_run begin_taken none now
     where
       none : (s : State) (call : Call) → call_after depth s call ≡ s → taken depth s call ≡ false → begin_taken depth s call ≡ false
-      none s Begin same answer = answer
-      none s (Step a) same answer = refl
-      none s (Deliver q a) same answer = refl
-      none s (Expire a q) same answer = refl
-      none s (Stop a) same answer = refl
-      none s (Restart a) same answer = refl
+      none s call same answer = grind arith
 
       now : (s s' : State) (call : Call) (p : ℕ) (input : Input) (r : Response) → Cause call p input → Turn n votes s s' p input r → begin_taken depth s call ≡ true → Started s'
-      now s s' Begin p input r cause t e running =
-          let rule = rw cause.1 at t.move.rule in
-          subst (λ (x : ℕ). initial (row_of s' x).stage ≡ false) cause.0 (rw (t.move.changes.own_row, rule.3))
-      now s s' (Step a) p input r cause t e running = absurd (false≢true e)
-      now s s' (Deliver q a) p input r cause t e running = absurd (false≢true e)
-      now s s' (Expire a q) p input r cause t e running = absurd (false≢true e)
-      now s s' (Stop a) p input r cause t e running = absurd (false≢true e)
-      now s s' (Restart a) p input r cause t e running = absurd (false≢true e)
+      now s s' call p input r cause t e running = grind (arith, nat_tests)
 
   stopped_run : happened loses_coordinator depth (new n votes) calls ≡ true → Started (after_all depth (new n votes) calls)
   stopped_run = started_run loses_coordinator none now
     where
       none : (s : State) (call : Call) → call_after depth s call ≡ s → taken depth s call ≡ false → loses_coordinator depth s call ≡ false
-      none s Begin same answer = refl
-      none s (Step a) same answer = refl
-      none s (Deliver q a) same answer = refl
-      none s (Expire a q) same answer = refl
-      none s (Stop a) same answer = and_right _ _ answer
-      none s (Restart a) same answer = refl
+      none s call same answer = grind arith
 
       now : (s s' : State) (call : Call) (p : ℕ) (input : Input) (r : Response) → Cause call p input → Turn n votes s s' p input r → loses_coordinator depth s call ≡ true → Started s'
-      now s s' Begin p input r cause t e running = absurd (false≢true e)
-      now s s' (Step a) p input r cause t e running = absurd (false≢true e)
-      now s s' (Deliver q a) p input r cause t e running = absurd (false≢true e)
-      now s s' (Expire a q) p input r cause t e running = absurd (false≢true e)
-      now s s' (Stop a) p input r cause t e running =
-          let rule = rw cause.1 at t.move.rule in
-          let zeroth : p ≡ 0 = cause.0 ∙ eqb-true a 0 (and_parts _ _ e).0 in
-          let stopped : runs (row_of s' p).status ≡ false = rw (t.move.changes.own_row, rule.1) in
-          absurd (both_ways _ (rw zeroth at stopped) running)
-      now s s' (Restart a) p input r cause t e running = absurd (false≢true e)
+      now s s' call p input r cause t e running = grind (arith, nat_tests)
 
   pub all_decided : AllDecided depth n votes calls
   all_decided rest had p known running =

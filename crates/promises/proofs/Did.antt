@@ -1,6 +1,6 @@
 -- What one ledger's move did: what it gave, wrote and learned.
 use Rattle.std.proofs.Common.{◌≡◌, ℕ, ◌<◌, ◌≤◌, Bool, true, false, cond, not, ◌&&◌, ◌||◌, eqb, ltb, ◌≢◌, List, is_some, Some, None, Option, sym, refl, ap, ◌∙◌, ⊎_elim, arith}
-use Rattle.std.proofs.lemmas.Bool.{both_ways, cases_Bool, eqb-true, or_left}
+use Rattle.std.proofs.lemmas.Bool.{both_ways, cases_Bool, or_left}
 use Rattle.std.proofs.lemmas.Bool.Decides.{nat_tests}
 use Rattle.network.specs.declared.message.Decision.{Decision}
 use Rattle.network.specs.declared.message.Decision.TheVariants.{Post, Drop}
@@ -305,9 +305,7 @@ module _ (who : Member) (row : Row) (J : List ℕ) (r : Response) where
       by o own e = grind arith
 
   passed_then : (d : Decision) (b : ℕ) → b ≢ who.number → Then who row r → passes d b r.row.stage ≡ true → (passes d b row.stage || gives (orders d) r.effect b) ≡ true
-  passed_then d b other (stays stage) e = or_left _ _ (rw stage at e)
-  passed_then d b other (leading l) e = absurd (grind arith)
-  passed_then d b other (announces o own stage effect) e = absurd (grind (arith, nat_tests))
+  passed_then d b other it e = grind (arith, nat_tests)
 
   stage_then : (input : Input) → Rule who row J input r → plain input ≡ false → runs r.row.status ≡ true → Then who row r
   stage_then begins rule other running = absurd (grind arith)
@@ -343,12 +341,6 @@ module _ (who : Member) (row : Row) (J : List ℕ) (r : Response) where
       by : (before after : Bool) → (after ≡ true → before ≡ true) → (h h' : Option Decision) → (after ≡ true → is_some h ≡ true → h' ≡ h) → (ten : Bool) → (ten ≡ true → has 10 (written r.effect J) ≡ true) → (not before || (is d h || (is (opposite d) h && ten))) ≡ true → (not after || (is d h' || (is (opposite d) h' && has 10 (written r.effect J)))) ≡ true
       by before after runs_before h h' same_held ten more e = grind (arith, runs_before, same_held, more)
 
-  keeps_round_by : (input : Input) → Rule who row J input r → expiring input ≡ false → runs r.row.status ≡ true → (r.row.round ≡ row.round) × (r.row.noticed ≡ row.noticed)
-  keeps_round_by input rule quiet running = grind (arith, nat_tests)
-
-  leads_before_by : (input : Input) → Rule who row J input r → expiring input ≡ false → runs r.row.status ≡ true → leads r.row.stage ≡ true → leads row.stage ≡ true
-  leads_before_by input rule quiet running e = grind (arith, nat_tests)
-
   new_replied_by : (input : Input) → Rule who row J input r → expiring input ≡ false → runs r.row.status ≡ true → (x : ℕ) → is_in r.row.replied x ≡ true → (is_in row.replied x || takes (denies row.round) input x) ≡ true
   new_replied_by input rule quiet running x there = grind (arith, nat_tests, in_with_other)
 
@@ -357,16 +349,7 @@ module _ (who : Member) (row : Row) (J : List ℕ) (r : Response) where
   Anew q s = (s.row.round ≡ above row.round) × (s.row.replied ≡ empty) × (s.row.noticed ≡ with_ledger row.noticed q) × (lower_left who.number (with_notice row q) ≡ false)
 
   pub leads_anew : (q : ℕ) → Rule who row J (expires q) r → (leads row.stage ≡ true → (1 ≤ who.number) × (lower_left who.number (with_notice row q) ≡ false)) → leads r.row.stage ≡ true → Anew q r
-  leads_anew q rule again e = rw rule.6 (by (eqb who.number 0) _ (lower_left who.number (with_notice row q)) (first_missing (with_ledger row.noticed q) (with_ledger row.noticed q) (above who.number) who.ledgers) refl refl (rw rule.6 at e))
-    where
-      by : (zeroth heard left : Bool) (found : Option ℕ) → eqb who.number 0 ≡ zeroth → lower_left who.number (with_notice row q) ≡ left
-          → leads (cond zeroth (cond heard (quiet (with_notice row q)) (announce who (with_notice row q) Drop AbortReached)) (cond left (quiet (with_notice row q)) (lead who (with_notice row q) found))).row.stage ≡ true
-          → Anew q (cond zeroth (cond heard (quiet (with_notice row q)) (announce who (with_notice row q) Drop AbortReached)) (cond left (quiet (with_notice row q)) (lead who (with_notice row q) found)))
-      by true true left found z l e = absurd (omega (arith, (again e).0, eqb-true who.number 0 z))
-      by true false left found z l e = absurd (grind arith)
-      by false heard true found z l e = absurd (both_ways true (sym l ∙ (again e).1) refl)
-      by false heard false (Some x) z l e = (refl, refl, refl, l)
-      by false heard false None z l e = absurd (grind arith)
+  leads_anew q rule again e = grind (arith, nat_tests)
 
 module _ {who : Member} {row : Row} {J : List ℕ} {input : Input} {r : Response} (acts : Acts who row J input r) where
   pub stage_goes : plain input ≡ false → runs r.row.status ≡ true → Then who row r
@@ -392,10 +375,10 @@ module _ {who : Member} {row : Row} {J : List ℕ} {input : Input} {r : Response
 
   -- a round stays as it is but for an expiry
   pub keeps_round : expiring input ≡ false → runs r.row.status ≡ true → (r.row.round ≡ row.round) × (r.row.noticed ≡ row.noticed)
-  keeps_round = keeps_round_by who row J r input acts.by_rule
+  keeps_round = grind (arith, nat_tests)
 
   pub leads_before : expiring input ≡ false → runs r.row.status ≡ true → leads r.row.stage ≡ true → leads row.stage ≡ true
-  leads_before = leads_before_by who row J r input acts.by_rule
+  leads_before = grind (arith, nat_tests)
 
   pub new_replied : expiring input ≡ false → runs r.row.status ≡ true → (x : ℕ) → is_in r.row.replied x ≡ true → (is_in row.replied x || takes (denies row.round) input x) ≡ true
   new_replied = new_replied_by who row J r input acts.by_rule

@@ -1,7 +1,7 @@
 -- What holds of each ledger by itself, whatever it does.
-use Rattle.std.proofs.Common.{◌≡◌, ℕ, ◌<◌, ◌≤◌, Bool, true, false, cond, not, ◌&&◌, ◌||◌, eqb, ltb, ◌≢◌, List, [], ◌∷◌, ◌++◌, length, get_or, is_some, Some, None, Option, sym, refl, ap, subst, ⊎_elim, arith}
-use Rattle.std.proofs.lemmas.List.{get_or-replicate, length_push}
-use Rattle.std.proofs.lemmas.Bool.{and_parts, cases_eq, cond_both, eqb-false, eqb-true, not-true, or_from, or_parts}
+use Rattle.std.proofs.Common.{◌≡◌, ℕ, ◌<◌, ◌≤◌, Bool, true, false, cond, not, ◌&&◌, ◌||◌, eqb, ltb, ◌≢◌, List, [], ◌∷◌, ◌++◌, length, get_or, is_some, Some, None, Option, refl, ap, subst, ⊎_elim, arith}
+use Rattle.std.proofs.lemmas.List.{length_push}
+use Rattle.std.proofs.lemmas.Bool.{and_parts, cases_eq, cond_both, eqb-false, eqb-true, not-true, or_parts}
 use Rattle.std.proofs.lemmas.Bool.Decides.{nat_tests}
 use Rattle.journals.specs.declared.entry.Entry.TheVariants.{AbortReached, Begin as BegunEntry, Dispute}
 use Rattle.network.specs.declared.message.Decision.{Decision}
@@ -11,7 +11,7 @@ use Rattle.network.specs.declared.message.Message.TheVariants.{Prepare, Vote as 
 use Rattle.network.specs.declared.message.Vote.{Vote}
 use Rattle.network.specs.declared.message.Vote.TheVariants.{Yes, No}
 use Rattle.rules.specs.Entries.{reached, ready, received}
-use Rattle.rules.specs.Ledgers.{empty, first_missing, is_in, with_ledger}
+use Rattle.rules.specs.Ledgers.{first_missing, is_in, with_ledger}
 use Rattle.rules.specs.Rules.{above, act, announce, asked, at_held, coordinator_lacks, counted, denied, first_other, in_stage, lead, on_denial, on_expiry, on_message, on_order, on_prepare, on_vote, other_above, outcome, participant_notices, quiet, same, with_notice, with_reply, with_vote}
 use Rattle.rules.specs.Stages.{counts, held, initial, leads}
 use Rattle.rules.specs.declared.effect.Effect.TheVariants.{Write, Send}
@@ -24,13 +24,13 @@ use Rattle.rules.specs.declared.stage.Status.{Status}
 use Rattle.rules.specs.declared.stage.Status.TheVariants.{Stopped, Running, Restarted}
 use Rattle.protocol.specs.Plans.{after_all}
 use Rattle.protocol.specs.Recovery.{finding}
-use Rattle.protocol.specs.State.{State, fresh, has, member_of, no_row, row_of, runs, stopped}
+use Rattle.protocol.specs.State.{State, fresh, has, member_of, row_of, runs, stopped}
 use Rattle.protocol.specs.declared.call.Call.{Call}
 use Rattle.protocol.specs.declared.recovery.Finding.{Finding}
 use Rattle.promises.specs.Runs.{new}
 use Rattle.promises.proofs.Journal.{Told, closed, most, promised, told_begins, told_decides, told_disputes, told_moves, told_obeys, told_readies}
 use Rattle.promises.proofs.Moves.{Input, Move, Rule, Sound, begins, expires, hears, misses, plain_run, restarts, steps, stops, written}
-use Rattle.promises.proofs.Sets.{count_set, found_missing, in_empty, in_with, lowest}
+use Rattle.promises.proofs.Sets.{count_set, in_with, lowest}
 use Rattle.promises.proofs.Shape.{Notes, Points, Shape, is_initial, lower_left, notes_leads, notes_moves, notes_notice, notes_reply, notes_vote, shape_begins, shape_coordinator, shape_holds, shape_leads, shape_moves, shape_participant, shape_reply, shape_vote}
 
 -- the most entries in a journal
@@ -101,7 +101,7 @@ module _ (who : Member) (J : List ℕ) (many : 2 ≤ who.ledgers) (few : who.led
   ReadyRow row = (held row.stage ≡ None) × Notes who.number row × Told who.vote row.stage J
 
   goes_on : (row : Row) → ReadyRow row → Shape who.ledgers who.number row → After (quiet row)
-  goes_on row its shape = record { notes = its.1; shape = shape; told = λ _. its.2; room = room_told who.vote row.stage J row.status its.2 }
+  goes_on row its shape = grind (arith, nat_tests)
 
   drops : (row : Row) → ReadyRow row → After (announce who row Drop AbortReached)
   drops row its = each_announces row true Drop its.0 its.1 its.2
@@ -189,13 +189,7 @@ module _ (who : Member) (J : List ℕ) (many : 2 ≤ who.ledgers) (few : who.led
 
   -- a message is sent, and the ledger goes on to a stage of the same kind
   sends : (row : Row) (stage after : Stage) (q : ℕ) (m : Message) → row.stage ≡ stage → runs row.status ≡ true → Each who row J → Alike stage after → Points who.ledgers who.number row.noticed after → After (record { row = in_stage row after; effect = Send q m })
-  sends row stage after q m is_at running each alike points =
-      record {
-        notes = notes_moves who.ledgers who.number row (omega arith) after each.notes;
-        shape = shape_moves who.ledgers who.number row after (rw is_at alike.same_counts) (rw is_at alike.same_leads) (λ e. each.shape.promised_at (rw is_at (alike.still_promised e))) alike.begun (rw is_at alike.same_held) points each.shape;
-        told = λ _. told_moves who.vote J stage after (sym alike.same_held) (sym alike.same_closed) alike.begun alike.still_promised alike.no_fewer (rw is_at at (each.told running));
-        room = each.room;
-      }
+  sends row stage after q m is_at running each alike points = grind (arith, nat_tests)
 
   abbrev IfAny : Option Response → Type 0
   IfAny None = Unit {0}
@@ -249,22 +243,10 @@ module _ (who : Member) (J : List ℕ) (many : 2 ≤ who.ledgers) (few : who.led
       }
 
   notes_fresh : (status : Status) → Notes who.number (fresh status)
-  notes_fresh status = record { noticed_long = refl; replied_long = refl; ayes_long = refl; noes_long = refl; rounds = omega arith; not_itself = in_empty who.number }
+  notes_fresh status = grind (arith, nat_tests)
 
   shape_fresh : (status : Status) → Shape who.ledgers who.number (fresh status)
-  shape_fresh status =
-      record {
-        points = tt;
-        counts_at = λ e. grind arith;
-        leads_at = λ e. grind arith;
-        promised_at = λ e. grind arith;
-        unnoticed = λ _ _ q. in_empty q;
-        unheard = λ _ _ q. or_from (is_in empty q) (is_in empty q) (in_empty q) (in_empty q);
-        lacks = λ e. grind arith;
-        noticed_heard = λ e. grind arith;
-        leads_last = λ above_zero _. found_missing empty empty 0 who.number 0 (omega arith) above_zero refl;
-        asks = λ e. grind arith;
-      }
+  shape_fresh status = grind (arith, nat_tests)
 
   each_restarts : (row : Row) → stopped row.status ≡ true → Each who row J → After (record { row = fresh Restarted; effect = (finding J).effect })
   each_restarts row halted each =
@@ -280,7 +262,7 @@ module _ (who : Member) (J : List ℕ) (many : 2 ≤ who.ledgers) (few : who.led
       short = grind (arith, each.room)
 
       still : Each who (fresh Restarted) J
-      still = record { notes = notes_fresh Restarted; shape = shape_fresh Restarted; told = λ e. grind arith; room = omega (arith, short) }
+      still = grind (arith, nat_tests)
 
       closes : Each who (fresh Restarted) (J ++ (9 ∷ []))
       closes =
@@ -292,8 +274,7 @@ module _ (who : Member) (J : List ℕ) (many : 2 ≤ who.ledgers) (few : who.led
           }
 
   each_stops : (row : Row) → runs row.status ≡ true → Each who row J → After (quiet (fresh Stopped))
-  each_stops row running each =
-      record { notes = notes_fresh Stopped; shape = shape_fresh Stopped; told = λ e. grind arith; room = room_told who.vote row.stage J Stopped (each.told running) }
+  each_stops row running each = grind (arith, nat_tests)
 
   -- whatever the ledger does, its facts still hold
   pub each_moves : (row : Row) (input : Input) (r : Response) → Rule who row J input r → Each who row J → After r
@@ -315,14 +296,7 @@ AllEach n votes s = (p : ℕ) → p < n → Each (me n votes p) (row_of s p) (s.
 
 module _ (n : ℕ) (votes : List Vote) (many : 2 ≤ n) (few : n ≤ 8) where
   pub each_new : AllEach n votes (new n votes)
-  each_new p mine =
-      rw (get_or-replicate 8 p (fresh Running) no_row (omega arith))
-      (record {
-        notes = notes_fresh (me n votes p) [] many few mine Running;
-        shape = shape_fresh (me n votes p) [] many few mine Running;
-        told = λ _. search arith;
-        room = omega arith;
-      })
+  each_new p mine = grind (arith, nat_tests)
 
   pub each_after : (s s' : State) (p : ℕ) (input : Input) (r : Response) → Sound n votes s → Move s p input r s' → AllEach n votes s → AllEach n votes s'
   each_after s s' p input r sound move each a known = ⊎_elim own other (cases_eq a p)
@@ -335,7 +309,7 @@ module _ (n : ℕ) (votes : List Vote) (many : 2 ≤ n) (few : n ≤ 8) where
           rw (e, move.changes.own_row, move.changes.own_entries) (each_moves (me n votes p) (s.entries p) many few mine (row_of s p) input r rule (each p mine))
 
       other : (a ≡ p → ⊥) → Each (me n votes a) (row_of s' a) (s'.entries a)
-      other e = rw (move.changes.other_row a e, move.changes.other_entries a e) (each a known)
+      other e = grind (arith, nat_tests)
 
   -- so that they hold at the end of every run
   pub each_run : (depth : ℕ) (calls : List Call) → AllEach n votes (after_all depth (new n votes) calls)

@@ -1,22 +1,19 @@
 -- Every run sends few messages, and ends.
-use Rattle.std.proofs.Common.{◌≡◌, ℕ, ◌+◌, ◌*◌, ◌≤◌, true, false, cond, leb, List, [], ◌∷◌, sym, refl, ap, ◌∙◌, subst, inl, inr, arith}
+use Rattle.std.proofs.Common.{◌≡◌, ℕ, ◌+◌, ◌*◌, ◌≤◌, true, false, cond, leb, List, [], ◌∷◌, sym, refl, ap, ◌∙◌, subst, arith}
 use Rattle.std.proofs.lemmas.Bool.{leb-true}
 use Rattle.network.specs.declared.message.Vote.{Vote}
-use Rattle.rules.specs.declared.effect.Effect.{Effect}
-use Rattle.rules.specs.declared.effect.Effect.TheVariants.{Nothing, Write, Send}
 use Rattle.rules.specs.declared.effect.Response.{Response}
 use Rattle.rules.specs.declared.row.Row.{Row}
 use Rattle.protocol.specs.Bounded.{all_below}
 use Rattle.protocol.specs.Plans.{after_all, call_after}
 use Rattle.protocol.specs.State.{State, row_of}
 use Rattle.protocol.specs.declared.call.Call.{Call}
-use Rattle.protocol.specs.declared.call.Call.TheVariants.{Begin, Step, Deliver, Expire, Stop, Restart}
 use Rattle.promises.specs.Promises.{Ends, FewMessages, most_messages}
 use Rattle.promises.specs.Runs.{added, counts_taken, new, on_the_way, sends, sum_below, taken, takes}
 use Rattle.promises.proofs.Quiet.{below}
 use Rattle.promises.proofs.Between.{Turn, mine}
 use Rattle.promises.proofs.Each.{AllEach, each_after, each_new}
-use Rattle.promises.proofs.Moves.{Cause, Input, Outcome, Sound, moved, outcome, refused, total}
+use Rattle.promises.proofs.Moves.{Cause, Input, Outcome, Sound, moved, outcome, refused}
 use Rattle.promises.proofs.Sets.{left_from}
 use Rattle.promises.proofs.Spending.{budget, effort, is_ask, one, sent_by, spent, taken_by}
 use Rattle.promises.proofs.Sums.{load, load_moves, load_none, load_one_each, sum_one}
@@ -56,12 +53,7 @@ module _ {n : ℕ} {votes : List Vote} {s s' : State} {p : ℕ} {input : Input} 
   on_links = omega (arith, load_moves one n p t.few (mine t) s s' input r t.sound.ledgers_are t.move (spent t).aimed, load_one_each s, load_one_each s')
 
   adds : s.sent + may_all n s ≤ most_messages n → most_messages n ≤ 1000 → s'.sent ≡ sent_by one r.effect + s.sent
-  adds bounded little = t.move.changes.sent_then ∙ by_effect r.effect (omega (arith, may_falls))
-    where
-      by_effect : (effect : Effect) → s.sent + sent_by one effect ≤ 1000 → total effect s.sent ≡ sent_by one effect + s.sent
-      by_effect Nothing small = omega arith
-      by_effect (Write entry) small = omega arith
-      by_effect (Send q m) small = omega arith
+  adds bounded little = grind arith
 
 -- what a new floor has, worked out for each number of ledgers
 start_fits : (n : ℕ) → n ≤ 8 → (sum_below (λ p. budget n p (row_of (new n []) p)) n ≤ most_messages n) × (sum_below (λ p. effort n (row_of (new n []) p)) n ≤ n * (n + 3)) × (most_messages n ≤ 1000)
@@ -74,21 +66,10 @@ start_fits n few = (
 
 -- what a call takes from its link is what its input takes
 takes_input : (depth : ℕ) (s : State) (call : Call) (p : ℕ) (input : Input) → Cause call p input → taken depth s call ≡ true → takes depth s call ≡ taken_by one input
-takes_input depth s Begin p input (who, what) answer = ap (taken_by one) (sym what)
-takes_input depth s (Step a) p input (who, what) answer = ap (taken_by one) (sym what)
-takes_input depth s (Deliver q a) p input (who, (m, inl what)) answer = rw answer (ap (taken_by one) (sym what))
-takes_input depth s (Deliver q a) p input (who, (m, inr what)) answer = rw answer (ap (taken_by one) (sym what))
-takes_input depth s (Expire a q) p input (who, what) answer = ap (taken_by one) (sym what)
-takes_input depth s (Stop a) p input (who, what) answer = ap (taken_by one) (sym what)
-takes_input depth s (Restart a) p input (who, what) answer = ap (taken_by one) (sym what)
+takes_input depth s call p input it answer = grind arith
 
 takes_none : (depth : ℕ) (s : State) (call : Call) → taken depth s call ≡ false → takes depth s call ≡ 0
-takes_none depth s Begin answer = refl
-takes_none depth s (Step a) answer = refl
-takes_none depth s (Deliver q a) answer = rw answer
-takes_none depth s (Expire a q) answer = refl
-takes_none depth s (Stop a) answer = refl
-takes_none depth s (Restart a) answer = refl
+takes_none depth s call answer = grind arith
 
 module _ (depth n : ℕ) (votes : List Vote) (many : 2 ≤ n) (few : n ≤ 8) where
   -- what stands at every point of a run

@@ -83,17 +83,7 @@ pub record Told (vote : Vote) (stage : Stage) (J : List ℕ) : Type 0 where
 module _ (vote : Vote) (J : List ℕ) where
   -- a stage that says no less of the journal
   pub told_moves : (stage after : Stage) → held stage ≡ held after → closed stage ≡ closed after → initial after ≡ false → (promised after ≡ true → promised stage ≡ true) → most stage ≤ most after → Told vote stage J → Told vote after J
-  told_moves stage after e f not_initial still more t =
-      record {
-        post = cc;
-        drop = cc;
-        posted = cc;
-        dropped = cc;
-        disputed = λ d. rw e at (t.disputed d);
-        nothing_yet = λ i. absurd (let z : ◌≡◌ {A = ℕ} 0 1 = cc in omega arith);
-        is_ready = λ k. t.is_ready (still k);
-        short = omega arith;
-      }
+  told_moves stage after e f not_initial still more t = grind (arith, nat_tests)
 
   pub told_begins : (next : ℕ) → Told vote Initial J → Told vote (Preparing next) (J ++ (1 ∷ []))
   told_begins next t = search (arith, nat_tests, pushed)

@@ -6,14 +6,13 @@ use Rattle.std.proofs.Math.Bool.{or-false}
 use Rattle.std.proofs.lemmas.List.Folds.{list_any-append}
 use Rattle.std.proofs.lemmas.Bool.{and_parts, cases_eq, eq-eqb, eqb-true, ne_eqb, or_cases, or_right}
 use Rattle.std.proofs.lemmas.Bool.Decides.{nat_tests}
-use Rattle.std.specs.Option.{ok_or}
-use Rattle.std.specs.List.{list_any, slice_get}
+use Rattle.std.specs.List.{list_any}
 use Rattle.journals.specs.Calls.{Entries, append_answer}
 use Rattle.journals.specs.Codes.{code_of}
 use Rattle.journals.specs.declared.entry.Entry.TheVariants.{Begin as BegunEntry}
 use Rattle.journals.specs.declared.fault.JournalsFault.{JournalsFault}
 use Rattle.network.proofs.LinkFacts.{own_link}
-use Rattle.network.specs.Links.{Links, is_link, look_answer, put_answer, take_after}
+use Rattle.network.specs.Links.{Links, look_answer, put_answer}
 use Rattle.network.specs.declared.fault.NetworkFault.{NetworkFault}
 use Rattle.network.specs.declared.message.Message.{Message}
 use Rattle.network.specs.declared.message.Vote.{Vote}
@@ -156,12 +155,10 @@ pub data Outcome (call : Call) (s s' : State) (answer : Bool) : Type 0 where
 
 -- an effect that is not refused
 ok_journals : {A : Type 0} (x : Result A JournalsFault) → is_ok (from_journals x) ≡ is_ok x
-ok_journals (Ok x) = refl
-ok_journals (Err fault) = refl
+ok_journals x = grind (arith, nat_tests)
 
 ok_network : (x : Result Unit NetworkFault) → is_ok (from_network x) ≡ is_ok x
-ok_network (Ok x) = refl
-ok_network (Err fault) = refl
+ok_network x = grind (arith, nat_tests)
 
 module _ (depth : ℕ) (s : State) (p : ℕ) (long : p < length s.rows) (row : Row) where
   -- p's row is stored, and the rest comes to what its effect says
@@ -190,51 +187,23 @@ module _ (depth : ℕ) (s : State) (p : ℕ) (long : p < length s.rows) (row : R
       let room = sym (ok_network (put_answer depth s.links p q)) ∙ ok in
       stored (Send q message) _ _ _ refl (λ a other. refl) (λ a b. rw room (sym (own_link s.links (λ link. link ++ (message ∷ [])) p q a b))) refl
 
--- the same change but for the links, which the input leaves as these
-relinked : (s : State) (p : ℕ) (input : Input) (r : Response) (s' : State) (links : Links)
-    → ((a b : ℕ) → links a b ≡ took p input a b (gave p r.effect a b (s.links a b)))
-    → Changes s p steps r s' → Changes s p input r (record { ledgers = s'.ledgers; votes = s'.votes; rows = s'.rows; links = links; entries = s'.entries; sent = s'.sent })
-relinked s p input r s' links link c = record {
-  same_ledgers = c.same_ledgers;
-  same_votes = c.same_votes;
-  same_length = c.same_length;
-  own_row = c.own_row;
-  other_row = c.other_row;
-  own_entries = c.own_entries;
-  other_entries = c.other_entries;
-  link = link;
-  sent_then = c.sent_then;
-}
-
 -- the same change, made by an input that takes no message
 by_input : (s : State) (p : ℕ) (input : Input) (r : Response) (s' : State) → ((a b : ℕ) (link : List Message) → took p input a b link ≡ link) → Changes s p steps r s' → Changes s p input r s'
-by_input s p input r s' still c = relinked s p input r s' s'.links (λ a b. c.link a b ∙ sym (still a b (gave p r.effect a b (s.links a b)))) c
+by_input s p input r s' still c = grind (arith, nat_tests)
 
 -- what p gives goes to another link than what comes to it
 pub gave_away : (p : ℕ) (effect : Effect) (q : ℕ) (link : List Message) → q ≢ p → gave p effect q p link ≡ link
-gave_away p Nothing q link other = refl
-gave_away p (Write entry) q link other = refl
-gave_away p (Send d message) q link other = rw (ne_eqb p q (λ e. other (sym e)))
+gave_away p effect q link other = grind (arith, nat_tests)
 
 -- a message from q is taken besides
 with_first : (s : State) (p : ℕ) (input : Input) (r : Response) (s' : State) (q : ℕ) → q ≢ p
     → is_ok (look_answer s.links q p) ≡ true
     → ((a b : ℕ) (link : List Message) → took p input a b link ≡ cond (eqb q a && eqb p b) (drop 1 link) link)
     → Changes s p steps r s' → Changes s p input r (without_first s' q p)
-with_first s p input r s' q other there takes c =
-    let same : s'.links q p ≡ s.links q p = c.link q p ∙ gave_away p r.effect q (s.links q p) other in
-    let still : is_ok (look_answer s'.links q p) ≡ true = rw same there in
-    relinked s p input r s' (take_after s'.links q p)
-    (λ a b. rw still (sym (own_link s'.links (drop 1) q p a b) ∙ rw (c.link a b) (sym (takes a b (gave p r.effect a b (s.links a b))))))
-    c
-
-first_of : (holds : Bool) (one two : NetworkFault) (link : List Message) (m : Message) → Rattle.network.specs.Links.check holds one (ok_or (slice_get link 0) two) ≡ Ok m → link ≡ m ∷ drop 1 link
-first_of holds one two [] m e = grind arith
-first_of holds one two (x ∷ xs) m e = grind arith
+with_first s p input r s' q other there takes c = grind (arith, nat_tests)
 
 pub ok_answered : {A : Type 0} (x : A) (y : Result Unit FloorFault) → is_ok (answered x y) ≡ is_ok y
-ok_answered x (Ok y) = refl
-ok_answered x (Err fault) = refl
+ok_answered x y = grind (arith, nat_tests)
 
 -- the effect of a response is refused, or it is performed
 carries : (depth : ℕ) (s : State) (call : Call) (p : ℕ) (input : Input) (r : Response) (answer : Bool)
@@ -291,8 +260,7 @@ module _ (depth : ℕ) (s : State) (long : s.ledgers ≤ length s.rows) where
 
   module _ (q p : ℕ) where
     ok_met : (x : Result Delivery FloorFault) → is_ok (met x) ≡ is_ok x
-    ok_met (Ok x) = refl
-    ok_met (Err fault) = refl
+    ok_met x = grind (arith, nat_tests)
 
     -- the pair is one of the floor's, and m the first message from q to p
     module _ (apart : pair s q p ≡ true) (m : Message) (there : look_answer s.links q p ≡ Ok m) where
@@ -300,7 +268,7 @@ module _ (depth : ℕ) (s : State) (long : s.ledgers ≤ length s.rows) where
       ends = grind (arith, nat_tests)
 
       head_first : s.links q p ≡ m ∷ drop 1 (s.links q p)
-      head_first = first_of (is_link q p) _ _ (s.links q p) m there
+      head_first = grind (arith, nat_tests)
 
       heard : (runs_now : runs (row_of s p).status ≡ true) (ok : Bool) → is_ok (perform_answer depth s p (respond s q p m).effect) ≡ ok
           → Outcome (Deliver q p) s (cond ok (without_first (perform_after depth s p (respond s q p m).row (respond s q p m).effect) q p) s) ok
@@ -371,12 +339,10 @@ pub record Sound (n : ℕ) (votes : List Vote) (s : State) : Type 0 where
   pub rows_are : length s.rows ≡ 8
 
 or_false : (b : Bool) → (b || false) ≡ b
-or_false true = refl
-or_false false = refl
+or_false b = grind (arith, nat_tests)
 
 or_assoc : (a b c : Bool) → (a || (b || c)) ≡ ((a || b) || c)
-or_assoc true b c = refl
-or_assoc false b c = refl
+or_assoc a b c = grind (arith, nat_tests)
 
 -- what a history of calls keeps; the Bool says whether the event has happened
 module _ (depth n : ℕ) (votes : List Vote) (few : n ≤ 8) (event : ℕ → State → Call → Bool) (I : Bool → State → Type 0)
@@ -386,15 +352,7 @@ module _ (depth n : ℕ) (votes : List Vote) (few : n ≤ 8) (event : ℕ → St
   one_call happens s call sound holds = by_outcome (outcome depth s (omega (arith, sound.ledgers_are, sound.rows_are)) call)
     where
       by_outcome : Outcome call s (call_after depth s call) (taken depth s call) → Sound n votes (call_after depth s call) × I (happens || event depth s call) (call_after depth s call)
-      by_outcome (refused same answer) = rw (no_event s call same answer, same, or_false happens) (sound, holds)
-      by_outcome (moved p input r cause move answer) = (
-        record {
-          ledgers_are = move.changes.same_ledgers ∙ sound.ledgers_are;
-          votes_are = move.changes.same_votes ∙ sound.votes_are;
-          rows_are = move.changes.same_length ∙ sound.rows_are;
-        },
-        step happens s call p input r sound cause move answer holds,
-      )
+      by_outcome it = grind (arith, nat_tests)
 
   along : (calls : List Call) (happens : Bool) (s : State) → Sound n votes s → I happens s → Sound n votes (after_all depth s calls) × I (happens || happened event depth s calls) (after_all depth s calls)
   along [] happens s sound holds = rw (or_false happens) (sound, holds)
@@ -431,13 +389,6 @@ takes test (misses q m) a = eqb q a && test m
 pub any_snoc : (test : Message → Bool) (link : List Message) (m : Message) → list_any test (link ++ (m ∷ [])) ≡ (list_any test link || test m)
 any_snoc test link m = list_any-append test link (m ∷ []) ∙ ap (λ b. list_any test link || b) (or-false (test m))
 
-any_rest : (test : Message → Bool) (link : List Message) → list_any test (drop 1 link) ≡ true → list_any test link ≡ true
-any_rest test [] e = e
-any_rest test (x ∷ xs) e = grind arith
-
-any_first : (test : Message → Bool) (link : List Message) (m : Message) → link ≡ m ∷ drop 1 link → list_any test link ≡ (test m || list_any test (drop 1 link))
-any_first test link m e = ap (list_any test) e
-
 pub has_snoc : (c : ℕ) (journal : List ℕ) (d : ℕ) → has c (journal ++ (d ∷ [])) ≡ (has c journal || eqb d c)
 has_snoc c [] d = grind arith
 has_snoc c (x ∷ xs) d = let more = has_snoc c xs d in grind arith
@@ -459,41 +410,17 @@ module _ (test : Message → Bool) where
   gave_any p (Send q m) a b link = grind (arith, nat_tests, any_snoc test link m)
 
   took_any : (p : ℕ) (input : Input) (a b : ℕ) (link : List Message) → list_any test (took p input a b link) ≡ true → list_any test link ≡ true
-  took_any p begins a b link e = e
-  took_any p steps a b link e = e
-  took_any p (hears q m) a b link e = grind (arith, any_rest test link)
-  took_any p (expires q) a b link e = e
-  took_any p stops a b link e = e
-  took_any p restarts a b link e = e
-  took_any p (misses q m) a b link e = grind (arith, any_rest test link)
+  took_any p input a b link e = grind (arith, nat_tests)
 
   left_any : (p : ℕ) (input : Input) (a b : ℕ) (link : List Message) → Heads p input a b link → list_any test link ≡ true → (list_any test (took p input a b link) || (eqb p b && takes test input a)) ≡ true
-  left_any p begins a b link first e = grind arith
-  left_any p steps a b link first e = grind arith
-  left_any p (hears q m) a b link first e = grind (arith, nat_tests, first, any_first test link m)
-  left_any p (expires q) a b link first e = grind arith
-  left_any p stops a b link first e = grind arith
-  left_any p restarts a b link first e = grind arith
-  left_any p (misses q m) a b link first e = grind (arith, nat_tests, first, any_first test link m)
+  left_any p input a b link first e = grind (arith, nat_tests)
 
 -- what comes to p is another link than what p gives to
 heads : (s : State) (p : ℕ) (input : Input) (r : Response) (a b : ℕ) → Rule (member_of s p) (row_of s p) (s.entries p) input r → First s p input → Heads p input a b (gave p r.effect a b (s.links a b))
-heads s p begins r a b rule first = tt
-heads s p steps r a b rule first = tt
-heads s p (hears q m) r a b rule first = λ e f. rw (e, f, gave_away p r.effect q (s.links q p) rule.1) first
-heads s p (expires q) r a b rule first = tt
-heads s p stops r a b rule first = tt
-heads s p restarts r a b rule first = tt
-heads s p (misses q m) r a b rule first = λ e f. rw (e, f, gave_away p r.effect q (s.links q p) rule.1) first
+heads s p input r a b rule first = grind (arith, nat_tests)
 
 took_away : (who : Member) (row : Row) (journal : List ℕ) (input : Input) (r : Response) (b : ℕ) (link : List Message) → Rule who row journal input r → took who.number input who.number b link ≡ link
-took_away who row journal begins r b link rule = refl
-took_away who row journal steps r b link rule = refl
-took_away who row journal (hears q m) r b link rule = rw (ne_eqb q who.number rule.1)
-took_away who row journal (expires q) r b link rule = refl
-took_away who row journal stops r b link rule = refl
-took_away who row journal restarts r b link rule = refl
-took_away who row journal (misses q m) r b link rule = rw (ne_eqb q who.number rule.1)
+took_away who row journal input r b link rule = grind (arith, nat_tests)
 
 -- what a move makes of links
 module _ (s : State) (p : ℕ) (input : Input) (r : Response) (s' : State) (move : Move s p input r s') (test : Message → Bool) where
@@ -519,16 +446,7 @@ module _ (s : State) (p : ℕ) (input : Input) (r : Response) (s' : State) (move
 
   -- what p takes was on its way
   pub taken_there : (a : ℕ) → takes test input a ≡ true → list_any test (s.links a p) ≡ true
-  taken_there a e = by_input_of input move.first e
-    where
-      by_input_of : (i : Input) → First s p i → takes test i a ≡ true → list_any test (s.links a p) ≡ true
-      by_input_of begins first e = grind arith
-      by_input_of steps first e = grind arith
-      by_input_of (hears q m) first e = let f = any_first test (s.links q p) m first in grind (arith, nat_tests)
-      by_input_of (expires q) first e = grind arith
-      by_input_of stops first e = grind arith
-      by_input_of restarts first e = grind arith
-      by_input_of (misses q m) first e = let f = any_first test (s.links q p) m first in grind (arith, nat_tests)
+  taken_there a e = grind (arith, nat_tests)
 
 -- a code once written stays
 pub has_written : (c : ℕ) (effect : Effect) (journal : List ℕ) → has c journal ≡ true → has c (written effect journal) ≡ true

@@ -1,18 +1,14 @@
 -- A floor that is not at rest would take a step, a delivery or an on-time expiry.
-use Rattle.std.proofs.Common.{◌≡◌, ℕ, ◌<◌, ◌≤◌, Bool, true, false, cond, not, ◌&&◌, eqb, ◌≢◌, ◌⊎◌, List, [], ◌∷◌, length, drop, is_ok, is_err, Some, None, Ok, Err, Result, sym, refl, ap, ◌∙◌, subst, inl, inr, ⊎_elim, arith}
+use Rattle.std.proofs.Common.{◌≡◌, ℕ, ◌<◌, ◌≤◌, Bool, true, false, not, ◌&&◌, eqb, ◌≢◌, ◌⊎◌, List, [], ◌∷◌, length, drop, is_ok, is_err, Ok, Err, Result, sym, refl, ap, ◌∙◌, subst, inl, inr, ⊎_elim, arith}
 use Rattle.std.proofs.lemmas.Bool.{and_cases, both_ways, cases_lt, lt-ltb, not-false, or_parts, true≢false}
 use Rattle.std.proofs.lemmas.Bool.Decides.{nat_tests}
-use Rattle.std.specs.Option.{ok_or}
-use Rattle.std.specs.List.{list_any, slice_get}
+use Rattle.std.specs.List.{list_any}
 use Rattle.journals.specs.CodeFacts.{coded}
 use Rattle.network.specs.Links.{Links, is_link, look_answer}
-use Rattle.network.specs.Refusals.{refused}
 use Rattle.network.specs.declared.fault.NetworkFault.{NetworkFault}
-use Rattle.network.specs.declared.fault.NetworkRefusal.TheVariants.{UnknownLedger, NothingThere}
 use Rattle.network.specs.declared.message.Message.{Message}
 use Rattle.network.specs.declared.message.Message.TheVariants.{Prepare, Vote as Voted, Order, Ask, Reply}
 use Rattle.network.specs.declared.message.Vote.{Vote}
-use Rattle.network.specs.declared.message.Vote.TheVariants.{Yes, No}
 use Rattle.rules.specs.Rules.{on_message}
 use Rattle.rules.specs.declared.effect.Effect.{Effect}
 use Rattle.rules.specs.declared.effect.Effect.TheVariants.{Nothing, Write, Send}
@@ -31,7 +27,6 @@ use Rattle.protocol.specs.declared.call.Answer.{Answer}
 use Rattle.protocol.specs.declared.call.Answer.TheVariants.{Done}
 use Rattle.protocol.specs.declared.call.Call.{Call}
 use Rattle.protocol.specs.declared.call.Call.TheVariants.{Step, Deliver, Expire}
-use Rattle.protocol.specs.declared.delivery.Delivery.TheVariants.{Delivered, Discarded}
 use Rattle.protocol.specs.declared.fault.FloorFault.{FloorFault}
 use Rattle.protocol.specs.declared.fault.FloorFault.TheVariants.{Refused}
 use Rattle.protocol.specs.declared.fault.FloorRefusal.TheVariants.{UnknownLedger as NoLedger}
@@ -53,9 +48,7 @@ abbrev pub Upwards : State → Type 0
 Upwards s = (a b : ℕ) → list_any asking (s.links a b) ≡ true → a < b
 
 given_upwards : (n p b : ℕ) (effect : Effect) → Aimed n p effect → gives asking effect b ≡ true → p < b
-given_upwards n p b Nothing aimed e = absurd (true≢false (sym e))
-given_upwards n p b (Write entry) aimed e = absurd (true≢false (sym e))
-given_upwards n p b (Send q m) aimed e = grind (arith, nat_tests, aimed.2)
+given_upwards n p b effect aimed e = grind (arith, nat_tests)
 
 upwards_then : (n : ℕ) (votes : List Vote) (s s' : State) (p : ℕ) (input : Input) (r : Response) → Turn n votes s s' p input r → Upwards s → Upwards s'
 upwards_then n votes s s' p input r t before a b there =
@@ -65,25 +58,13 @@ upwards_then n votes s s' p input r t before a b there =
 
 -- only an Ask is answered by a message
 silent : (who : Member) (row : Row) (q : ℕ) (m : Message) (disputed : Bool) → asking m ≡ false → sent_by one (on_message who row q m disputed).effect ≡ 0
-silent who row q Prepare disputed e = grind arith
-silent who row q (Voted Yes) disputed e = grind arith
-silent who row q (Voted No) disputed e = grind arith
-silent who row q (Order decision) disputed e = grind arith
-silent who row q (Ask round) disputed e = absurd (true≢false e)
-silent who row q (Reply round (Some decision)) disputed e = grind arith
-silent who row q (Reply round None) disputed e = grind arith
-
--- what lies first on its link
-looked : (f g : NetworkFault) (link : Bool) (list : List Message) (m : Message) → cond link (ok_or (slice_get list 0) f) (Err g) ≡ Ok m → (link ≡ true) × (list ≡ m ∷ drop 1 list)
-looked f g true [] m e = absurd (grind arith)
-looked f g true (x ∷ list) m e = (refl, grind arith)
-looked f g false list m e = absurd (grind arith)
+silent who row q m disputed e = grind (arith, nat_tests)
 
 first_there : (links : Links) (q p : ℕ) (m : Message) → look_answer links q p ≡ Ok m → (is_link q p ≡ true) × (links q p ≡ m ∷ drop 1 (links q p))
-first_there links q p m e = looked (refused q p NothingThere) (refused q p UnknownLedger) (is_link q p) (links q p) m e
+first_there links q p m e = grind (arith, nat_tests)
 
 look_first : (links : Links) (q p : ℕ) (m : Message) (rest : List Message) → is_link q p ≡ true → links q p ≡ m ∷ rest → look_answer links q p ≡ Ok m
-look_first links q p m rest link e = rw (link, e)
+look_first links q p m rest link e = grind (arith, nat_tests)
 
 apart : (q p : ℕ) → is_link q p ≡ true → (q < 8) × (p < 8) × (q ≢ p)
 unfolding is_link
@@ -96,9 +77,7 @@ Roomy depth links p (Write entry) = Unit {0}
 Roomy depth links p (Send q m) = length (links p q) < depth
 
 nothing_sent : (depth n : ℕ) (links : Links) (p : ℕ) (effect : Effect) → sent_by one effect ≡ 0 → Aimed n p effect × Roomy depth links p effect
-nothing_sent depth n links p Nothing none = (tt, tt)
-nothing_sent depth n links p (Write entry) none = (tt, tt)
-nothing_sent depth n links p (Send q m) none = absurd (omega arith)
+nothing_sent depth n links p effect none = grind (arith, nat_tests)
 
 module _ (depth n : ℕ) (deep : 1 ≤ depth) (votes : List Vote) (many : 2 ≤ n) (few : n ≤ 8) (s : State) (sound : Sound n votes s) (each : AllEach n votes s) (upwards : Upwards s) where
   performs : (p : ℕ) (effect : Effect) → p < n → Aimed n p effect → Roomy depth s.links p effect → is_ok (perform_answer depth s p effect) ≡ true
@@ -134,16 +113,8 @@ module _ (depth n : ℕ) (deep : 1 ≤ depth) (votes : List Vote) (many : 2 ≤ 
       two : pair s q p ≡ true
       two = let ends = apart q p (first_there s.links q p m there).0 in grind (arith, nat_tests, sound.ledgers_are)
 
-      by_status : (running : Bool) → runs (row_of s p).status ≡ running → is_ok (met (cond running (answered Delivered (perform_answer depth s p (respond s q p m).effect)) (Ok Discarded))) ≡ true
-      by_status true e = ok_met (perform_answer depth s p (respond s q p m).effect) (performed e)
-        where
-          ok_met : (x : Result Unit FloorFault) → is_ok x ≡ true → is_ok (met (answered Delivered x)) ≡ true
-          ok_met (Ok x) ok = refl
-          ok_met (Err fault) ok = ok
-      by_status false e = refl
-
       by_look : (both : Bool) → both ≡ true → (found : Result Message NetworkFault) → found ≡ Ok m → is_ok (met (check both (Refused NoLedger q p) (looked_answer depth s q p found))) ≡ true
-      by_look both e found f = rw (e, f) (by_status (runs (row_of s p).status) refl)
+      by_look both e found f = grind (arith, nat_tests)
 
   silent_taken : (q p : ℕ) (m : Message) → q < n → p < n → look_answer s.links q p ≡ Ok m → asking m ≡ false → taken depth s (Deliver q p) ≡ true
   silent_taken q p m q<n p<n there not_asked =

@@ -15,7 +15,7 @@ pub record Rounds (s : State) : Type 0 where
   pub replied_to : (a b k : ℕ) → runs (row_of s b).status ≡ true → list_any (replies k) (s.links a b) ≡ true → k ≤ (row_of s b).round
 
 pub rounds_new : (n : ℕ) (votes : List Vote) → Rounds (new n votes)
-rounds_new n votes = record { asked_by = λ a b k running e. absurd (grind arith); replied_to = λ a b k running e. absurd (grind arith) }
+rounds_new n votes = grind arith
 
 module _ {n : ℕ} {votes : List Vote} {s s' : State} {p : ℕ} {input : Input} {r : Response} (t : Turn n votes s s' p input r) where
   pub small_round : (row_of s p).round ≤ 8

@@ -1,9 +1,9 @@
 -- Sets of ledgers: who is in one, who is missing, and how many are in.
-use Rattle.std.proofs.Common.{◌≡◌, ℕ, zero, suc, ◌+◌, ◌-◌, ◌<◌, ◌≤◌, Bool, true, false, cond, ◌||◌, eqb, List, length, get_or, set, replicate, is_some, Some, None, Option, sym, refl, ap, ◌∙◌, inl, inr, ⊎_elim, arith}
+use Rattle.std.proofs.Common.{◌≡◌, ℕ, zero, suc, ◌+◌, ◌-◌, ◌<◌, ◌≤◌, Bool, true, false, cond, ◌||◌, eqb, List, length, get_or, set, is_some, Some, None, Option, sym, refl, ap, ◌∙◌, inl, inr, arith}
 use Rattle.std.specs.List.{count_by}
 use Rattle.std.proofs.lemmas.List.Sums.{count_by-le-length, sum_by-set}
-use Rattle.std.proofs.lemmas.List.{length-set, get_or_past, get_or-replicate, get_or-set_same, get_or-set_other}
-use Rattle.std.proofs.lemmas.Bool.{cases_eq, cases_lt}
+use Rattle.std.proofs.lemmas.List.{length-set, get_or-set_same, get_or-set_other}
+use Rattle.std.proofs.lemmas.Bool.{cases_eq}
 use Rattle.std.proofs.lemmas.Bool.Decides.{nat_tests}
 use Rattle.rules.specs.Ledgers.{empty, is_in, missing_from, first_missing, with_ledger}
 use Rattle.rules.specs.declared.ledger_set.LedgerSet.{LedgerSet}
@@ -13,7 +13,7 @@ pub in_with : (s : LedgerSet) (q x : ℕ) → length s.members ≡ 8 → q < 8 �
 in_with s q x long below = grind (arith, nat_tests, get_or-set_same s.members q true false, get_or-set_other s.members q x true false)
 
 pub in_empty : (x : ℕ) → is_in empty x ≡ false
-in_empty x = ⊎_elim (λ below. get_or-replicate 8 x false false below) (λ past. get_or_past (replicate 8 false) x false past) (cases_lt x 8)
+in_empty x = grind (arith, nat_tests)
 
 -- who is in one of the two
 abbrev pub in_either : LedgerSet → LedgerSet → ℕ → Bool
@@ -103,7 +103,7 @@ left_from s i end = out_of s i (end - i)
 
 pub left_more : (s : LedgerSet) (i end : ℕ) → i < end → left_from s i end ≡ cond (is_in s i) 0 1 + left_from s (i + 1) end
 unfolding left_from
-left_more s i end below = rw (let more : end - i ≡ suc (end - (i + 1)) = omega arith in more)
+left_more s i end below = grind (arith, nat_tests)
 
 module _ (s : LedgerSet) (end : ℕ) where
   -- those before x are all in
@@ -114,10 +114,6 @@ module _ (s : LedgerSet) (end : ℕ) where
 
   pub left_skips : (i x : ℕ) → i ≤ x → x ≤ end → ((j : ℕ) → i ≤ j → j < x → is_in s j ≡ true) → left_from s i end ≡ left_from s x end
   left_skips i x low below all = skips (x - i) i x (omega arith) below all
-
-out_most : (s : LedgerSet) (i k : ℕ) → out_of s i k ≤ k
-out_most s i zero = omega arith
-out_most s i (suc k) = grind (arith, out_most s (i + 1) k)
 
 -- a set with more in it
 module _ (s t : LedgerSet) (more : (j : ℕ) → is_in s j ≡ true → is_in t j ≡ true) where

@@ -70,7 +70,7 @@ module _ (n p : ℕ) (row : Row) (small : p < 8) where
   notes_moves stage notes = search
 
   pub notes_leads : (q : ℕ) → row.round < count row.noticed.members → Notes p row → Notes p (record { status = row.status; stage = Asking q; round = above row.round; noticed = row.noticed; replied = empty; ayes = row.ayes; noes = row.noes })
-  notes_leads q more notes = search arith
+  notes_leads q more notes = grind (arith, nat_tests)
 
   pub notes_vote : (q : ℕ) (vote : Vote) → Notes p row → Notes p (with_vote row q vote)
   notes_vote q Yes notes = search (arith, length-set)
@@ -84,98 +84,27 @@ is_initial stage e = grind arith
 
 -- only a leader's number depends on who is noticed
 points_kept : (n p : ℕ) (before after : LedgerSet) (stage : Stage) → leads stage ≡ false → Points n p before stage → Points n p after stage
-points_kept n p before after Initial tame points = points
-points_kept n p before after (Preparing next) tame points = points
-points_kept n p before after Wait tame points = points
-points_kept n p before after Voting tame points = points
-points_kept n p before after Ready tame points = points
-points_kept n p before after (Asking next) tame points = absurd (let z : ◌≡◌ {A = ℕ} 0 1 = cc in omega arith)
-points_kept n p before after Consulting tame points = points
-points_kept n p before after (Announcing decision next) tame points = points
-points_kept n p before after (Announced decision) tame points = points
-points_kept n p before after (Decided decision) tame points = points
+points_kept n p before after stage tame points = grind (arith, nat_tests)
 
 module _ (n p : ℕ) (row : Row) where
   pub shape_begins : p ≡ 0 → initial row.stage ≡ true → 2 ≤ n → Shape n p row → Shape n p (in_stage row (Preparing 1))
-  shape_begins zeroth i many shape =
-      let silent = shape.unheard zeroth i in
-      let unseen = shape.unnoticed zeroth i in
-      record {
-        points = omega arith;
-        counts_at = λ _. zeroth;
-        leads_at = λ e. grind arith;
-        promised_at = λ e. grind arith;
-        unnoticed = λ _ e. grind arith;
-        unheard = λ _ e. grind arith;
-        lacks = λ _. found_missing row.ayes row.noes 1 n 1 (omega arith) (omega arith) (silent 1);
-        noticed_heard = λ _ q there. grind (arith, unseen q);
-        leads_last = λ above_zero _. absurd (omega arith);
-        asks = λ e. grind arith;
-      }
+  shape_begins zeroth i many shape = grind (arith, nat_tests)
 
   -- another stage of the same kind
   pub shape_moves : (after : Stage) → counts after ≡ counts row.stage → leads after ≡ leads row.stage → (promised after ≡ true → 1 ≤ p) → initial after ≡ false → held after ≡ held row.stage → Points n p row.noticed after → Shape n p row → Shape n p (in_stage row after)
-  shape_moves after same_counts same_leads low i same_held points shape =
-      record {
-        points = points;
-        counts_at = λ e. shape.counts_at (sym same_counts ∙ e);
-        leads_at = λ e. shape.leads_at (sym same_leads ∙ e);
-        promised_at = low;
-        unnoticed = λ _ e. grind arith;
-        unheard = λ _ e. grind arith;
-        lacks = λ e. shape.lacks (sym same_counts ∙ e);
-        noticed_heard = λ e. shape.noticed_heard (sym same_counts ∙ e);
-        leads_last = λ above_zero e. shape.leads_last above_zero (ap is_some (sym same_held) ∙ e) ∙ ap not (sym same_leads);
-        asks = λ e. shape.asks (sym same_leads ∙ e);
-      }
+  shape_moves after same_counts same_leads low i same_held points shape = grind (arith, nat_tests)
 
   -- a stage that holds a decision
   pub shape_holds : (after : Stage) → is_some (held after) ≡ true → Points n p row.noticed after → Shape n p (in_stage row after)
-  shape_holds after holds points =
-      record {
-        points = points;
-        counts_at = λ e. grind arith;
-        leads_at = λ e. grind arith;
-        promised_at = λ e. grind arith;
-        unnoticed = λ _ e. grind arith;
-        unheard = λ _ e. grind arith;
-        lacks = λ e. grind arith;
-        noticed_heard = λ e. grind arith;
-        leads_last = λ above_zero e. grind arith;
-        asks = λ e. grind arith;
-      }
+  shape_holds after holds points = grind (arith, nat_tests)
 
   -- more votes are in, and another is still out
   pub shape_vote : (ayes noes : LedgerSet) → ((x : ℕ) → in_either row.ayes row.noes x ≡ true → in_either ayes noes x ≡ true) → counts row.stage ≡ true → is_some (first_missing ayes noes 1 n) ≡ true → Shape n p row → Shape n p (record { status = row.status; stage = row.stage; round = row.round; noticed = row.noticed; replied = row.replied; ayes = ayes; noes = noes })
-  shape_vote ayes noes more c left shape =
-      record {
-        points = shape.points;
-        counts_at = shape.counts_at;
-        leads_at = shape.leads_at;
-        promised_at = shape.promised_at;
-        unnoticed = shape.unnoticed;
-        unheard = λ _ e. grind arith;
-        lacks = λ _. left;
-        noticed_heard = λ _ x there. more x (shape.noticed_heard c x there);
-        leads_last = shape.leads_last;
-        asks = shape.asks;
-      }
+  shape_vote ayes noes more c left shape = grind (arith, nat_tests)
 
   -- a reply is in, and another is still out
   pub shape_reply : (q : ℕ) → is_some (first_missing row.noticed (with_ledger row.replied q) (above p) n) ≡ true → Shape n p row → Shape n p (with_reply row q)
-  shape_reply q left shape =
-      record {
-        points = shape.points;
-        counts_at = shape.counts_at;
-        leads_at = shape.leads_at;
-        promised_at = shape.promised_at;
-        unnoticed = shape.unnoticed;
-        unheard = shape.unheard;
-        lacks = shape.lacks;
-        noticed_heard = shape.noticed_heard;
-        leads_last = shape.leads_last;
-        asks = λ _. left;
-      }
+  shape_reply q left shape = grind (arith, nat_tests)
 
   -- the coordinator notices one that it has heard
   pub shape_coordinator : (q : ℕ) → q < 8 → Notes p row → p ≡ 0 → initial row.stage ≡ false → in_either row.ayes row.noes q ≡ true → Shape n p row → Shape n p (with_notice row q)

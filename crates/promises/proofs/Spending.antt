@@ -3,16 +3,16 @@ use Rattle.std.proofs.Common.{◌≡◌, ℕ, zero, suc, ◌+◌, ◌-◌, ◌*�
 use Rattle.std.proofs.lemmas.Bool.{both_ways, cases_lt, cond_both, eqb-false, eqb-true, or_from}
 use Rattle.std.proofs.lemmas.Bool.Decides.{nat_tests}
 use Rattle.journals.specs.declared.entry.Entry.{Entry}
-use Rattle.journals.specs.declared.entry.Entry.TheVariants.{AbortReached, Begin as BegunEntry, Dispute, TransactionAbort}
+use Rattle.journals.specs.declared.entry.Entry.TheVariants.{AbortReached, Begin as BegunEntry, Dispute}
 use Rattle.network.specs.declared.message.Decision.{Decision}
 use Rattle.network.specs.declared.message.Decision.TheVariants.{Drop}
 use Rattle.network.specs.declared.message.Message.{Message}
 use Rattle.network.specs.declared.message.Message.TheVariants.{Prepare, Vote as Voted, Order, Ask, Reply}
 use Rattle.network.specs.declared.message.Vote.{Vote}
 use Rattle.network.specs.declared.message.Vote.TheVariants.{Yes, No}
-use Rattle.rules.specs.Entries.{obeyed, reached, ready, received}
+use Rattle.rules.specs.Entries.{obeyed, reached, received}
 use Rattle.rules.specs.Ledgers.{empty, first_missing, is_in, with_ledger}
-use Rattle.rules.specs.Rules.{above, act, announce, asked, at_held, coordinator_lacks, counted, denied, first_other, in_stage, lead, on_denial, on_expiry, on_message, on_order, on_prepare, on_vote, other_above, outcome, participant_notices, quiet, same, with_notice, with_reply, with_vote}
+use Rattle.rules.specs.Rules.{above, act, announce, asked, at_held, coordinator_lacks, counted, denied, in_stage, lead, on_denial, on_expiry, on_message, on_order, on_prepare, on_vote, other_above, outcome, participant_notices, quiet, same, with_notice, with_reply, with_vote}
 use Rattle.rules.specs.Stages.{counts, held, initial, leads}
 use Rattle.rules.specs.declared.effect.Effect.{Effect}
 use Rattle.rules.specs.declared.effect.Effect.TheVariants.{Nothing, Write, Send}
@@ -24,8 +24,7 @@ use Rattle.rules.specs.declared.stage.Stage.{Stage}
 use Rattle.rules.specs.declared.stage.Stage.TheVariants.{Initial, Preparing, Wait, Voting, Ready, Asking, Consulting, Announcing, Announced, Decided}
 use Rattle.rules.specs.declared.stage.Status.{Status}
 use Rattle.rules.specs.declared.stage.Status.TheVariants.{Stopped, Running, Restarted}
-use Rattle.protocol.specs.Recovery.{finding, found}
-use Rattle.protocol.specs.declared.recovery.Recovery.TheVariants.{Posted, Dropped, Uncertain}
+use Rattle.protocol.specs.Recovery.{finding}
 use Rattle.protocol.specs.State.{State, has, runs, row_of}
 use Rattle.promises.proofs.Between.{Turn, acts, mine, mover}
 use Rattle.promises.proofs.Each.{Each, me}
@@ -40,14 +39,13 @@ rising zero = 0
 rising (suc m) = rising m + 2 * suc m
 
 pub rising_next : (m : ℕ) → 1 ≤ m → rising m ≡ rising (m - 1) + 2 * m
-rising_next zero some = absurd (omega arith)
-rising_next (suc m) some = ap (λ k. rising k + 2 * suc m) (let e : m ≡ suc m - 1 = omega arith in e)
+rising_next m some = grind (arith, nat_tests)
 
 pub rising_more : (a b : ℕ) → a ≤ b → rising a ≤ rising b
 rising_more a zero le = ap_le (omega arith)
   where
     ap_le : a ≡ 0 → rising a ≤ 0
-    ap_le e = rw e (omega arith)
+    ap_le e = grind (arith, nat_tests)
 rising_more a (suc b) le = ⊎_elim (λ below. omega (arith, rising_more a b below)) (λ same. rw same (omega arith)) (cases a b le)
   where
     cases : (a b : ℕ) → a ≤ suc b → (a ≤ b) ⊎ (a ≡ suc b)
@@ -134,14 +132,8 @@ pub record Spends (n p : ℕ) (before : Row) (input : Input) (r : Response) : Ty
   pub aimed : Aimed n p r.effect
 
 module _ (n p : ℕ) (many : 2 ≤ n) (few : n ≤ 8) (mine : p < n) where
-  undecided_may : (noticed : LedgerSet) (stage : Stage) → held stage ≡ None → n - 1 ≤ may n p noticed stage
-  undecided_may noticed stage none = grind arith
-
   undecided_ahead : (noticed : LedgerSet) (stage : Stage) → held stage ≡ None → left_from noticed 0 n ≤ ahead n noticed stage
   undecided_ahead noticed stage none = grind arith
-
-  first_may : (noticed : LedgerSet) (decision : Decision) → may n p noticed (Announcing decision (first_other p)) ≡ n - 1
-  first_may noticed decision = grind (arith, nat_tests)
 
   -- one that does not lead, and notices more
   noticing_may : (before after : LedgerSet) (stage : Stage) → leads stage ≡ false → left_from after (p + 1) n ≤ left_from before (p + 1) n → may n p after stage ≤ may n p before stage
@@ -168,17 +160,14 @@ module _ (who : Member) (many : 2 ≤ who.ledgers) (few : who.ledgers ≤ 8) (mi
   ahead_now = ahead who.ledgers row.noticed row.stage
 
   spends : (input : Input) (after : Row) (effect : Effect) → after.status ≡ Running → may who.ledgers who.number after.noticed after.stage + (sent_by one effect + sent_by is_ask effect) ≤ may_now + taken_by is_ask input → ahead who.ledgers after.noticed after.stage + 1 ≤ ahead_now + (sent_by one effect + taken_by one input) → Aimed who.ledgers who.number effect → Spent input (record { row = after; effect = effect })
-  spends input after effect still fewer lower aimed = record { fewer = rw (still, running) fewer; lower = rw (still, running) (omega arith); aimed = aimed }
+  spends input after effect still fewer lower aimed = grind (arith, nat_tests)
 
   -- a row with the same stage that has noticed the same
   goes_on : (q : ℕ) (m : Message) (after : Row) → after.status ≡ Running → after.noticed ≡ row.noticed → after.stage ≡ row.stage → Spent (hears q m) (quiet after)
-  goes_on q m after still same_noticed same_stage = spends (hears q m) after Nothing still (rw (same_noticed, same_stage) (omega arith)) (rw (same_noticed, same_stage) (omega arith)) tt
+  goes_on q m after still same_noticed same_stage = grind (arith, nat_tests)
 
   announces : (input : Input) (after : Row) (decision : Decision) (entry : Entry) → after.status ≡ Running → held row.stage ≡ None → 2 ≤ ahead_now + taken_by one input → Spent input (announce who after decision entry)
-  announces input after decision entry still none enough =
-      spends input (in_stage after (Announcing decision (first_other who.number))) (Write entry) still
-      (omega (arith, first_may who.ledgers who.number many few mine after.noticed decision, undecided_may who.ledgers who.number many few mine row.noticed row.stage none))
-      (omega arith) tt
+  announces input after decision entry still none enough = grind (arith, nat_tests)
 
   some_left : 1 ≤ left_from row.noticed 0 who.ledgers
   some_left = left_one row.noticed who.number 0 who.ledgers each.notes.noticed_long (omega arith) each.notes.not_itself (omega arith) mine
@@ -196,10 +185,7 @@ module _ (who : Member) (many : 2 ≤ who.ledgers) (few : who.ledgers ≤ 8) (mi
           cond_both (same own decision || has 10 J) (quiet row) (record { row = row; effect = Write Dispute }) (Spent (hears q m)) (λ _. goes_on q m row running refl refl) (λ _. spends (hears q m) row (Write Dispute) running (omega arith) (omega arith) tt)
 
   spends_prepare : (q : ℕ) → Spent (hears q Prepare) (on_prepare who row)
-  spends_prepare q =
-      cond_both (initial row.stage && not (eqb who.number 0)) (record { row = in_stage row Voting; effect = Write (ready who.vote) }) (quiet row) (Spent (hears q Prepare))
-      (λ test. spends (hears q Prepare) (in_stage row Voting) (Write (ready who.vote)) running (grind arith) (grind arith) tt)
-      (λ _. goes_on q Prepare row running refl refl)
+  spends_prepare q = grind (arith, nat_tests)
 
   spends_vote : (q : ℕ) (vote : Vote) → Spent (hears q (Voted vote)) (on_vote who row q vote)
   spends_vote q vote = cond_both (counts row.stage) (counted who (with_vote row q vote)) (quiet row) (Spent (hears q (Voted vote))) (λ c. by_vote vote (Voted vote) c) (λ _. goes_on q (Voted vote) row running refl refl)
@@ -308,7 +294,7 @@ module _ (who : Member) (many : 2 ≤ who.ledgers) (few : who.ledgers ≤ 8) (mi
 
   -- a message is sent, and the stage is another
   sends : (after : Stage) (q : ℕ) (m : Message) → (q < who.ledgers) × (q ≢ who.number) × (is_ask m ≡ 1 → who.number < q) → may who.ledgers who.number row.noticed after + (1 + is_ask m) ≤ may_now → ahead who.ledgers row.noticed after ≤ ahead_now → Spent steps (record { row = in_stage row after; effect = Send q m })
-  sends after q m aimed fewer lower = spends steps (in_stage row after) (Send q m) running (omega arith) (omega arith) aimed
+  sends after q m aimed fewer lower = grind (arith, nat_tests)
 
   spends_acts : (stage : Stage) → row.stage ≡ stage → IfAny (act who row stage)
   spends_acts Initial is_at = tt
@@ -348,18 +334,11 @@ module _ (who : Member) (many : 2 ≤ who.ledgers) (few : who.ledgers ≤ 8) (mi
   spends_acts (Decided decision) is_at = tt
 
   spends_begins : who.number ≡ 0 → initial row.stage ≡ true → Spent begins (record { row = in_stage row (Preparing 1); effect = Write BegunEntry })
-  spends_begins zeroth i = spends begins (in_stage row (Preparing 1)) (Write BegunEntry) running (grind (arith, nat_tests)) (grind arith) tt
+  spends_begins zeroth i = grind (arith, nat_tests)
 
 -- a restart sends nothing
 restart_aims : (n p : ℕ) (J : List ℕ) → Aimed n p (finding J).effect
-restart_aims n p J = by_tests (has 8 J) (has 9 J) (has 5 J || has 7 J) (has 4 J || (has 6 J || has 2 J))
-  where
-    by_tests : (a b c d : Bool) → Aimed n p (cond a (found Posted Nothing) (cond b (found Dropped Nothing) (cond c (found Dropped (Write TransactionAbort)) (cond d (found Uncertain Nothing) (found Dropped (Write TransactionAbort)))))).effect
-    by_tests true b c d = tt
-    by_tests false true c d = tt
-    by_tests false false true d = tt
-    by_tests false false false true = tt
-    by_tests false false false false = tt
+restart_aims n p J = grind (arith, nat_tests)
 
 -- whatever the ledger does, it spends
 pub spends_moves : (who : Member) → 2 ≤ who.ledgers → who.ledgers ≤ 8 → who.number < who.ledgers → (row : Row) (J : List ℕ) (input : Input) (r : Response) → Rule who row J input r → Each who row J → Spends who.ledgers who.number row input r

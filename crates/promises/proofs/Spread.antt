@@ -1,11 +1,11 @@
 -- Whom an announcement has passed: they have the order before them, or have heeded it.
-use Rattle.std.proofs.Common.{◌≡◌, ℕ, ◌<◌, ◌≤◌, Bool, true, false, not, ◌&&◌, ◌||◌, ◌≢◌, ◌⊎◌, List, Some, Option, sym, refl, ◌∙◌, inl, inr, ⊎_elim, arith}
+use Rattle.std.proofs.Common.{◌≡◌, ℕ, ◌<◌, ◌≤◌, Bool, true, false, ◌&&◌, ◌||◌, ◌≢◌, ◌⊎◌, List, Some, sym, refl, ◌∙◌, inl, inr, ⊎_elim, arith}
 use Rattle.std.specs.List.{list_any}
 use Rattle.std.proofs.lemmas.Bool.{and_parts, and_from, both_ways, false≢true, cases_eq, not-true, or_cases, or_left, or_right}
 use Rattle.std.proofs.lemmas.Bool.Decides.{nat_tests}
 use Rattle.journals.specs.Codes.{code_of}
 use Rattle.network.specs.declared.message.Decision.{Decision}
-use Rattle.network.specs.declared.message.Decision.TheVariants.{Post, Drop}
+use Rattle.network.specs.declared.message.Decision.TheVariants.{Post}
 use Rattle.network.specs.declared.message.Message.TheVariants.{Prepare, Vote as Voted, Order, Ask, Reply}
 use Rattle.network.specs.declared.message.Vote.{Vote}
 use Rattle.rules.specs.Entries.{obeyed}
@@ -22,10 +22,8 @@ use Rattle.promises.specs.Runs.{happened, new, step_obeys, taken}
 use Rattle.promises.proofs.Between.{Turn, acts, had, is_there, now_there, own_or_other, runs_before, sound_run, turns_with}
 use Rattle.promises.proofs.Did.{ended, heeds, obeys, orders, passed_on, passes, posts, settles, stays_settled, wrote}
 use Rattle.promises.proofs.Each.{me}
-use Rattle.promises.proofs.Journal.{is}
 use Rattle.promises.proofs.Moves.{Cause, Input, begins, steps, hears, expires, stops, restarts, misses, Rule, gives, takes, written}
 use Rattle.promises.proofs.Quiet.{all_empty}
-use Rattle.promises.proofs.Wanted.{row_of_new}
 
 -- an announcement of d by w has passed b, or w has ended it by a step, whatever became of w
 abbrev pub passed : State → ℕ → Decision → Bool → ℕ → Bool
@@ -36,7 +34,7 @@ abbrev pub Spread : ℕ → ℕ → Decision → Bool → State → Type 0
 Spread n w d over s = (b : ℕ) → b < n → b ≢ w → passed s w d over b ≡ true → (list_any (orders d) (s.links w b) || settles d (row_of s b) (s.entries b)) ≡ true
 
 spread_new : (n : ℕ) (votes : List Vote) (w : ℕ) (d : Decision) → Spread n w d false (new n votes)
-spread_new n votes w d b known other e = absurd (grind (arith, row_of_new n votes w))
+spread_new n votes w d b known other e = grind (arith, nat_tests)
 
 module _ {n : ℕ} {votes : List Vote} {s s' : State} {p : ℕ} {input : Input} {r : Response} (t : Turn n votes s s' p input r) (w : ℕ) (d : Decision) where
   -- once settled, or ordered, b stays so
@@ -92,7 +90,7 @@ abbrev pub Posted : ℕ → State → Type 0
 Posted n s = (w : ℕ) → Spread n w Post (has 8 (s.entries w)) s
 
 pub posted_new : (n : ℕ) (votes : List Vote) → Posted n (new n votes)
-posted_new n votes w = spread_new n votes w Post
+posted_new n votes w = grind (arith, nat_tests)
 
 pub posted_then : {n : ℕ} {votes : List Vote} {s s' : State} {p : ℕ} {input : Input} {r : Response} → Turn n votes s s' p input r → Posted n s → Posted n s'
 posted_then {s} {s'} {p} {r} t posted w b known other e =
@@ -122,12 +120,7 @@ module _ (depth n : ℕ) (votes : List Vote) (many : 2 ≤ n) (few : n ≤ 8) (c
       (spread_new n votes w d) calls
     where
       none : (s : State) (call : Call) → call_after depth s call ≡ s → taken depth s call ≡ false → step_obeys w d depth s call ≡ false
-      none s Begin same answer = refl
-      none s (Step a) same answer = rw same (grind arith)
-      none s (Deliver q a) same answer = refl
-      none s (Expire a q) same answer = refl
-      none s (Stop a) same answer = refl
-      none s (Restart a) same answer = refl
+      none s call same answer = grind arith
 
   pub disputes_shown : DisputesShown depth n votes calls
   disputes_shown clear p w d known other apart over running holds =
@@ -136,8 +129,4 @@ module _ (depth n : ℕ) (votes : List Vote) (many : 2 ≤ n) (few : n ≤ 8) (c
       shown d (row_of (after_all depth (new n votes) calls) p) ((after_all depth (new n votes) calls).entries p) running holds (rw none at spread)
     where
       shown : (d : Decision) (row : Row) (J : List ℕ) → runs row.status ≡ true → held row.stage ≡ Some (opposite d) → settles d row J ≡ true → has 10 J ≡ true
-      shown d row J running holds e = by d (runs row.status) (held row.stage) running holds e
-        where
-          by : (d : Decision) (running : Bool) (h : Option Decision) → running ≡ true → h ≡ Some (opposite d) → (not running || (is d h || (is (opposite d) h && has 10 J))) ≡ true → has 10 J ≡ true
-          by Post running h r e f = grind arith
-          by Drop running h r e f = grind arith
+      shown d row J running holds e = grind (arith, nat_tests)

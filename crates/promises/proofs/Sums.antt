@@ -34,10 +34,6 @@ pairs_one f g a b k a<k b<k same =
 unfoldable pub table : (ℕ → ℕ → ℕ) → ℕ
 table f = sum_below (λ q. sum_below (f q) 8) 8
 
-pub table_same : (f g : ℕ → ℕ → ℕ) → ((q p : ℕ) → f q p ≡ g q p) → table f ≡ table g
-unfolding table
-table_same f g same = sum_same (λ q. sum_below (f q) 8) (λ q. sum_below (g q) 8) 8 (λ q _. sum_same (f q) (g q) 8 (λ p _. same q p))
-
 pub table_one : (f g : ℕ → ℕ → ℕ) (a b : ℕ) → a < 8 → b < 8 → ((q p : ℕ) → ((q ≡ a) × (p ≡ b) → ⊥) → f q p ≡ g q p) → table f + g a b ≡ table g + f a b
 unfolding table
 table_one f g a b a8 b8 same = pairs_one f g a b 8 a8 b8 same
@@ -57,7 +53,7 @@ module _ (weight : Message → ℕ) where
 
   pub load_same : (L M : Links) → ((q p : ℕ) → L q p ≡ M q p) → load weight L ≡ load weight M
   unfolding load
-  load_same L M same = table_same (λ q p. sum_by weight (L q p)) (λ q p. sum_by weight (M q p)) (λ q p. ap (sum_by weight) (same q p))
+  load_same L M same = grind (arith, nat_tests)
 
   module _ (n p : ℕ) (few : n ≤ 8) (mine : p < n) where
     load_gave : (L : Links) (effect : Effect) → Aimed n p effect → load weight (λ a b. gave p effect a b (L a b)) ≡ load weight L + sent_by weight effect

@@ -1,5 +1,5 @@
 -- While every expiry is on time: who drops leaves no post alive.
-use Rattle.std.proofs.Common.{◌≡◌, ℕ, ◌<◌, ◌≤◌, Bool, true, false, not, ◌&&◌, ◌||◌, eqb, ◌≢◌, ◌⊎◌, List, [], ◌∷◌, is_some as option_is_some, Option, sym, ap, ◌∙◌, subst, inl, inr, ⊎_elim, arith}
+use Rattle.std.proofs.Common.{◌≡◌, ℕ, ◌<◌, ◌≤◌, Bool, true, false, not, ◌&&◌, ◌||◌, eqb, ◌≢◌, ◌⊎◌, List, [], ◌∷◌, is_some as option_is_some, Option, ap, ◌∙◌, subst, inl, inr, ⊎_elim, arith}
 use Rattle.std.specs.List.{list_any}
 use Rattle.std.proofs.lemmas.Bool.{and_parts, both_ways, cases_Bool, cases_eq, cases_order, false≢true, not-true, or_cases, or_left, or_right}
 use Rattle.std.proofs.lemmas.Bool.Decides.{nat_tests}
@@ -15,11 +15,10 @@ use Rattle.rules.specs.declared.row.Member.{Member}
 use Rattle.rules.specs.declared.row.Row.{Row}
 use Rattle.rules.specs.declared.stage.Stage.{Stage}
 use Rattle.protocol.specs.State.{State, has, row_of, runs}
-use Rattle.promises.specs.Promises.{opposite}
 use Rattle.promises.proofs.Between.{Turn, acts, had, heard_there, holder_knows, knew, knower_holds, knows_then, leads_again, mine, mover, own_or_other, runs_before, stopped_still, was_there}
-use Rattle.promises.proofs.Did.{all_ayes, all_in, announced, carries, denies, disputes, dropped_holds, drops, drops_heard, drops_leads, drops_noticing, expiring, expiry_comes, gave_decision, gave_denial, hearer, hears_that, holds_still, keeps_round, leads_before, leads_on, new_holder, new_noticed, new_replied, notices, obeys, orders, posts, reaches_post, readies, receives, recovers, replies, settles, source, still_runs, wrote, wrote_one}
+use Rattle.promises.proofs.Did.{all_ayes, all_in, announced, carries, denies, disputes, dropped_holds, drops, drops_heard, drops_leads, drops_noticing, expiring, gave_decision, gave_denial, hearer, hears_that, holds_still, keeps_round, leads_before, leads_on, new_holder, new_noticed, new_replied, notices, obeys, orders, posts, reaches_post, readies, receives, recovers, replies, settles, source, still_runs, wrote, wrote_one}
 use Rattle.promises.proofs.Each.{AllEach, Each, me}
-use Rattle.promises.proofs.Journal.{closed, is, knows, promised}
+use Rattle.promises.proofs.Journal.{is, knows}
 use Rattle.promises.proofs.Moves.{Input, taken_there}
 use Rattle.promises.proofs.Rounds.{Rounds, small_round}
 use Rattle.promises.proofs.Sets.{in_empty}
@@ -96,18 +95,8 @@ any_weaker : (f g : Message → Bool) → ((m : Message) → f m ≡ true → g 
 any_weaker f g more [] e = e
 any_weaker f g more (m ∷ ms) e = ⊎_elim (λ here. or_left _ _ (more m here)) (λ there. or_right _ _ (any_weaker f g more ms there)) (or_cases _ _ e)
 
-none_closed : (d : Decision) (stage : Stage) → option_is_some (held stage) ≡ false → is d (closed stage) ≡ true → ⊥
-none_closed d stage e f = grind arith
-
 pub unsettled : (d : Decision) (row : Row) (J : List ℕ) → runs row.status ≡ true → option_is_some (held row.stage) ≡ false → settles d row J ≡ true → ⊥
-unsettled d row J running none e = by (runs row.status) (held row.stage) running none e
-  where
-    by : (running : Bool) (h : Option Decision) → running ≡ true → option_is_some h ≡ false → (not running || (is d h || (is (opposite d) h && has 10 J))) ≡ true → ⊥
-    by running h r none e = grind arith
-
--- an undecided coordinator that has begun counts votes
-no_kind : (stage : Stage) (p : ℕ) → p ≡ 0 → option_is_some (held stage) ≡ false → (eqb p 0 && initial stage) ≡ false → counts stage ≡ false → (leads stage ≡ true → 1 ≤ p) → (promised stage ≡ true → 1 ≤ p) → ⊥
-no_kind stage p zeroth none begun tame l k = grind (arith, nat_tests, l, k)
+unsettled d row J running none e = grind (arith, nat_tests)
 
 -- a leader has noticed all lower ones
 lower_noticed : (who : Member) (row : Row) (J : List ℕ) → Each who row J → leads row.stage ≡ true → (x : ℕ) → x < who.number → is_in row.noticed x ≡ true
@@ -158,14 +147,14 @@ module _ {n : ℕ} {votes : List Vote} {s s' : State} {p : ℕ} {input : Input} 
   witness_still l row x = record { it = x.it; higher = x.higher; known = x.known; unnoticed = x.unnoticed; unreplied = x.unreplied; no_denial = ⊎_elim (λ there. absurd (denied there)) (λ none. none) (cases_Bool _); knower = knows_then t Post x.it x.knower }
     where
       given : x.it ≡ p → (runs (row_of s p).status ≡ true) × (option_is_some (held (row_of s p).stage) ≡ false) → ⊥
-      given same (running, none) = is_some Post (held (row_of s p).stage) (knower_holds Post (me n votes p) (row_of s p) (s.entries p) (mover t) running (rw same at x.knower)) none
+      given same (running, none) = grind (arith, nat_tests)
 
       denied : list_any (denies row.round) (s'.links x.it l) ≡ true → ⊥
       denied there = ⊎_elim (λ old. both_ways _ x.no_denial old) (λ new. given new.0 (gave_denial (acts t) row.round l new.1)) (was_there t (denies row.round) x.it l there)
 
   module _ (running : runs r.row.status ≡ true) (lead : leads r.row.stage ≡ true) (alive : Alive n s) where
     runs_first : runs (row_of s p).status ≡ true
-    runs_first = still_runs (acts t) running
+    runs_first = grind (arith, nat_tests)
 
     -- the round goes on
     witness_on : expiring input ≡ false → Witness n s p (row_of s p) → Witness n s' p r.row
@@ -181,13 +170,13 @@ module _ {n : ℕ} {votes : List Vote} {s s' : State} {p : ℕ} {input : Input} 
     -- a new round begins
     module _ (expiry : expiring input ≡ true) (h : Holder n s) where
       comes : (option_is_some (held (row_of s p).stage) ≡ false) × ((eqb p 0 && initial (row_of s p).stage) ≡ false) × (is_in (row_of s p).noticed (source input) ≡ false) × (source input ≢ p) × (source input < n)
-      comes = expiry_comes (acts t) expiry
+      comes = grind (arith, nat_tests)
 
       anew : (r.row.round ≡ above (row_of s p).round) × (r.row.replied ≡ empty) × (r.row.noticed ≡ with_ledger (row_of s p).noticed (source input)) × (lower_left p (with_notice (row_of s p) (source input)) ≡ false)
       anew = leads_on (acts t) expiry (leads_again t expiry) lead
 
       other : h.it ≢ p
-      other same = is_some Post (held (row_of s p).stage) (rw same at h.holds_post) comes.0
+      other same = grind (arith, nat_tests)
 
       -- the holder runs, so that it is not noticed
       unnoticed_now : is_in r.row.noticed h.it ≡ true → ⊥
@@ -242,7 +231,7 @@ module _ {n : ℕ} {votes : List Vote} {s s' : State} {p : ℕ} {input : Input} 
   no_trace none late = record { none_alive = alive; none_posted = λ a known. ⊎_elim (λ eight. absurd (knows_none a (w'.closed a eight))) (λ no_eight. no_eight) (cases_Bool _); late = late }
     where
       knows_none : (a : ℕ) → knows Post (s'.entries a) ≡ true → ⊥
-      knows_none a e = both_ways _ none (w'.traced a e)
+      knows_none a e = grind (arith, nat_tests)
 
       alive : Alive n s' → ⊥
       alive (holder h) = knows_none h.it (holder_knows Post (me n votes h.it) (row_of s' h.it) (s'.entries h.it) (each' h.it h.known) h.runs_now h.holds_post)
@@ -298,7 +287,7 @@ module _ {n : ℕ} {votes : List Vote} {s s' : State} {p : ℕ} {input : Input} 
       undecided = drops (acts t) five
 
       own : has 8 (s.entries p) ≡ true → ⊥
-      own eight = none_closed Post (row_of s p).stage undecided.1 (sym ((mover t).told undecided.0).posted ∙ eight)
+      own eight = grind (arith, nat_tests)
 
       other : (a : ℕ) → a < n → p ≢ a → has 8 (s.entries a) ≡ true → ⊥
       other a known apart eight =
@@ -334,7 +323,7 @@ module _ {n : ℕ} {votes : List Vote} {s s' : State} {p : ℕ} {input : Input} 
     noticed_dead expiry = drops_dead five (λ alive. refuted (find_holder expiry alive)) (gone (stopped_still t 0 (halted 0 (λ e. omega (arith, e, participant)) (omega (arith, t.many)))))
       where
         participant : 1 ≤ p
-        participant = ⊎_elim (λ zeroth. absurd (no_kind (row_of s p).stage p zeroth undecided.1 (expiry_comes (acts t) expiry).1 tame (mover t).shape.leads_at (mover t).shape.promised_at)) (λ other. omega (arith, other)) (cases_eq p 0)
+        participant = grind (arith, nat_tests)
 
         halted : (x : ℕ) → x ≢ p → x < n → runs (row_of s x).status ≡ false
         halted x other known =
@@ -349,10 +338,10 @@ module _ {n : ℕ} {votes : List Vote} {s s' : State} {p : ℕ} {input : Input} 
   counted_dead five c = no_trace (⊎_elim (λ four. absurd (before four)) (λ none. none) (cases_Bool _)) (decided (subst (λ (x : ℕ). option_is_some (held (row_of s' x).stage) ≡ true) zeroth (rw t.move.changes.own_row (dropped_holds (acts t) five))))
     where
       zeroth : p ≡ 0
-      zeroth = (mover t).shape.counts_at c
+      zeroth = grind (arith, nat_tests)
 
       known_four : has 4 (s.entries p) ≡ true → ⊥
-      known_four four = let d = drops (acts t) five in is_some Post (held (row_of s p).stage) (knower_holds Post (me n votes p) (row_of s p) (s.entries p) (mover t) d.0 (or_left _ _ four)) d.1
+      known_four four = grind (arith, nat_tests)
 
       before : has 4 (s'.entries 0) ≡ true → ⊥
       before four = ⊎_elim (λ old. known_four (rw zeroth old)) (λ new. omega (arith, wrote_one (acts t) 4 5 new.1 five)) (had t 4 0 four)
@@ -367,7 +356,7 @@ module _ {n : ℕ} {votes : List Vote} {s s' : State} {p : ℕ} {input : Input} 
   unready_dead nine stopped no_two no_four = no_trace (⊎_elim (λ four. absurd (before four)) (λ none. none) (cases_Bool _)) (⊎_elim own other (cases_eq p 0))
     where
       ready : p ≢ 0 → has 4 (s.entries 0) ≡ true → ⊥
-      ready other four = both_ways _ no_two ((w.all_ready four p (mine t)).1 (omega (arith, other)))
+      ready other four = grind (arith, nat_tests)
 
       before : has 4 (s'.entries 0) ≡ true → ⊥
       before four =
@@ -375,7 +364,7 @@ module _ {n : ℕ} {votes : List Vote} {s s' : State} {p : ℕ} {input : Input} 
           (λ new. omega (arith, wrote_one (acts t) 4 9 new.1 nine)) (had t 4 0 four)
 
       own : p ≡ 0 → Late n s'
-      own zeroth = gone (rw zeroth at (stopped_still t p stopped))
+      own zeroth = grind (arith, nat_tests)
 
       still_unready : has 2 (s'.entries p) ≡ true → ⊥
       still_unready two = ⊎_elim (λ old. both_ways _ no_two old) (λ new. omega (arith, wrote_one (acts t) 2 9 new.1 nine)) (had t 2 p two)
@@ -411,7 +400,7 @@ module _ {n : ℕ} {votes : List Vote} {s s' : State} {p : ℕ} {input : Input} 
   calm_then a known = ⊎_elim (λ ten. absurd (⊎_elim (λ old. both_ways _ (m.calm a known) old) (λ new. fresh (and_parts _ _ (disputes (acts t) new.1))) (had t 10 a ten))) (λ none. none) (cases_Bool _)
     where
       drop_held : is Drop (held (row_of s p).stage) ≡ true → runs (row_of s p).status ≡ true → Dead n s
-      drop_held e running = m.dead p (mine t) (or_left _ _ (holder_knows Drop (me n votes p) (row_of s p) (s.entries p) (mover t) running e))
+      drop_held e running = grind (arith, nat_tests)
 
       fresh : (runs (row_of s p).status ≡ true) × (((hears_that (carries Post) input && is Drop (held (row_of s p).stage)) || (hears_that (carries Drop) input && is Post (held (row_of s p).stage))) ≡ true) → ⊥
       fresh (running, e) =

@@ -12,8 +12,7 @@ use Rattle.rules.specs.declared.stage.Stage.{Stage}
 use Rattle.rules.specs.declared.stage.Stage.TheVariants.{Initial, Preparing, Wait, Voting, Ready, Asking, Consulting, Announcing, Announced, Decided}
 use Rattle.promises.proofs.Shape.{lower_left}
 use Rattle.journals.specs.declared.entry.Entry.TheVariants.{AbortReached}
-use Rattle.rules.specs.Entries.{reached}
-use Rattle.rules.specs.Rules.{above, act, announce, asked, in_stage, lead, on_expiry, on_vote, outcome, quiet, same, with_notice, with_vote}
+use Rattle.rules.specs.Rules.{above, act, announce, asked, in_stage, lead, on_expiry, on_vote, quiet, same, with_notice, with_vote}
 use Rattle.rules.specs.Stages.{counts, initial, leads}
 use Rattle.rules.specs.declared.effect.Effect.TheVariants.{Send}
 use Rattle.rules.specs.declared.effect.Response.{Response}
@@ -76,12 +75,7 @@ SetsThen who row q v r =
     ((r.row.ayes ≡ (with_vote row q v).ayes) × (r.row.noes ≡ (with_vote row q v).noes)) ⊎ ((counts row.stage ≡ false) × (r.row ≡ row))
 
 vote_sets : (who : Member) (row : Row) (q : ℕ) (v : Vote) (r : Response) → r ≡ on_vote who row q v → SetsThen who row q v r
-vote_sets who row q v r e = rw e (by (counts row.stage) refl _)
-  where
-    by : (c : Bool) → counts row.stage ≡ c → (left : Bool) → SetsThen who row q v (cond c (cond left (quiet (with_vote row q v)) (announce who (with_vote row q v) (outcome who (with_vote row q v)) (reached (outcome who (with_vote row q v))))) (quiet row))
-    by true c true = inl (refl, refl)
-    by true c false = inl (refl, refl)
-    by false c left = inr (c, refl)
+vote_sets who row q v r e = grind (arith, nat_tests)
 
 expiry_sets : (who : Member) (row : Row) (q : ℕ) (r : Response) → r ≡ on_expiry who row q → (r.row.ayes ≡ row.ayes) × (r.row.noes ≡ row.noes)
 expiry_sets who row q r e = grind arith

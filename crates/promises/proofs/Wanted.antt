@@ -1,8 +1,7 @@
 -- A post comes only from the coordinator, when every vote is yes.
-use Rattle.std.proofs.Common.{◌≡◌, ℕ, ◌<◌, ◌≤◌, true, ◌≢◌, ◌⊎◌, List, get_or, replicate, sym, refl, inl, inr, ⊎_elim, arith}
+use Rattle.std.proofs.Common.{◌≡◌, ℕ, ◌<◌, ◌≤◌, true, ◌≢◌, ◌⊎◌, List, get_or, sym, refl, inl, inr, ⊎_elim, arith}
 use Rattle.std.specs.List.{list_any}
-use Rattle.std.proofs.lemmas.List.{get_or_past, get_or-replicate}
-use Rattle.std.proofs.lemmas.Bool.{and_parts, cases_eq, cases_lt, or_cases, or_right}
+use Rattle.std.proofs.lemmas.Bool.{and_parts, cases_eq, or_cases, or_right}
 use Rattle.journals.specs.Codes.{code_of}
 use Rattle.network.specs.declared.message.Decision.{Decision}
 use Rattle.network.specs.declared.message.Decision.TheVariants.{Post}
@@ -18,10 +17,8 @@ use Rattle.protocol.specs.State.{State, fresh, has, no_row, row_of, runs}
 use Rattle.protocol.specs.declared.call.Call.{Call}
 use Rattle.promises.specs.Promises.{PostIsWanted}
 use Rattle.promises.specs.Runs.{new}
-use Rattle.promises.proofs.Between.{Turn, acts, had, has_then, heard_there, holder_knows, knew, knows_then, mover, own_or_other, turns, was_there}
+use Rattle.promises.proofs.Between.{Turn, acts, had, has_then, heard_there, knew, knows_then, mover, own_or_other, turns, was_there}
 use Rattle.promises.proofs.Did.{all_ayes, carries, gave_decision, gave_vote, new_ayes, posts, reaches_post, has_wrote, receives, source, votes_as, wrote}
-use Rattle.promises.proofs.Each.{me}
-use Rattle.promises.proofs.Sets.{in_empty}
 use Rattle.promises.proofs.Journal.{is, knows, promised}
 use Rattle.promises.proofs.Moves.{Input, taken_there}
 
@@ -35,25 +32,18 @@ pub record Wanted (n : ℕ) (votes : List Vote) (s : State) : Type 0 where
   pub all_ready : has 4 (s.entries 0) ≡ true → (q : ℕ) → q < n → (get_or votes q Yes ≡ Yes) × (1 ≤ q → has 2 (s.entries q) ≡ true)
 
 pub row_of_new : (n : ℕ) (votes : List Vote) (a : ℕ) → (row_of (new n votes) a ≡ fresh Running) ⊎ (row_of (new n votes) a ≡ no_row)
-row_of_new n votes a = ⊎_elim (λ low. inl (get_or-replicate 8 a (fresh Running) no_row low)) (λ high. inr (get_or_past (replicate 8 (fresh Running)) a no_row high)) (cases_lt a 8)
+row_of_new n votes a = grind arith
 
 module _ (n : ℕ) (votes : List Vote) where
   pub wanted_new : Wanted n votes (new n votes)
-  wanted_new = record {
-    carried = λ a b d e. absurd (grind arith);
-    voted = λ a b v e. absurd (grind arith);
-    heard = λ a q e. absurd (grind (arith, row_of_new n votes a, in_empty q));
-    closed = λ a e. absurd (grind arith);
-    traced = λ a e. absurd (grind arith);
-    all_ready = λ e. absurd (grind arith);
-  }
+  wanted_new = grind arith
 
 module _ {n : ℕ} {votes : List Vote} {s s' : State} {p : ℕ} {input : Input} {r : Response} (t : Turn n votes s s' p input r) (w : Wanted n votes s) where
   carried_then : (a b : ℕ) (d : Decision) → list_any (carries d) (s'.links a b) ≡ true → knows d (s'.entries a) ≡ true
   carried_then a b d e = knows_then t d a (⊎_elim (λ old. w.carried a b d old) (λ new. given new.0 (and_parts _ _ (gave_decision (acts t) d b new.1))) (was_there t (carries d) a b e))
     where
       given : a ≡ p → (runs (row_of s p).status ≡ true) × (is d (held (row_of s p).stage) ≡ true) → knows d (s.entries a) ≡ true
-      given same holds = rw same (holder_knows d (me n votes p) (row_of s p) (s.entries p) (mover t) holds.0 holds.1)
+      given same holds = grind arith
 
   voted_then : (a b : ℕ) (v : Vote) → list_any (votes_as v) (s'.links a b) ≡ true → (get_or votes a Yes ≡ v) × (has (code_of (ready v)) (s'.entries a) ≡ true)
   voted_then a b v e =
@@ -76,7 +66,7 @@ module _ {n : ℕ} {votes : List Vote} {s s' : State} {p : ℕ} {input : Input} 
   closed_then a e = knows_then t Post a (⊎_elim (w.closed a) (λ new. own new.0 (posts (acts t) new.1)) (had t 8 a e))
     where
       own : a ≡ p → (runs (row_of s p).status ≡ true) × (is Post (held (row_of s p).stage) ≡ true) → knows Post (s.entries a) ≡ true
-      own same holds = rw same (holder_knows Post (me n votes p) (row_of s p) (s.entries p) (mover t) holds.0 holds.1)
+      own same holds = grind arith
 
   traced_then : (a : ℕ) → knows Post (s'.entries a) ≡ true → has 4 (s'.entries 0) ≡ true
   traced_then a e =
