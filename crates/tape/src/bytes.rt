@@ -68,6 +68,7 @@ impl Tape {
             return Err(JournalsFault::of_none(JournalsRefusal::ShortList));
         }
         let mut before = Tape::new();
+        // By index, since a record's bytes lie at a place counted from its number.
         for i in 0..self.len {
             let next = self.records[i];
             lay_record(

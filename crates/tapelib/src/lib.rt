@@ -8,6 +8,7 @@ ghost use Rattle.tapelib.specs.Check.{place_after};
 use tape::Tape;
 
 // Whether the tape is whole; where it is torn, `place` is set to where.
+// A flag and a number, since the C interface has no Result.
 pub fn tape_is_whole(bytes: &[u8], place: &mut usize) -> bool
     ensures answer { result ≡ is_ok (read_tape bytes.now) }
     ensures after { place.new ≡ place_after (read_tape bytes.now) place.old }

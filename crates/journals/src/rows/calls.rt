@@ -19,9 +19,8 @@ impl Rows {
     pub fn new() -> Rows
         ensures { entries_of result ≡ no_entries }
     {
-        Rows {
-            rows: Default::default(),
-        }
+        let rows = Default::default();
+        Rows { rows }
     }
 
     fn row_of(&self, ledger: Ledger) -> &ArrayVec<Entry, ENTRIES>
