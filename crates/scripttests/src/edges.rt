@@ -1,7 +1,5 @@
 // The edges of the format.
-use journals::rows::Rows;
-use pool::Pool;
-use script::rehearsal::rehearse;
+use crate::plays::rehearsed;
 use std::alloc::Global;
 use std::process::Abort;
 use std::test::Fail;
@@ -65,12 +63,9 @@ const EDGES: [Edge; 12] = [
 ];
 
 fn check_edge(rt: &impl Abort, heap: Global, edge: &Edge) -> Result<(), Fail> {
-    let mut script = String::from_str(heap, "F 2 YY\n")?;
-    script.push_str(edge.line)?;
-    let mut text = String::from_str(heap, edge.printed)?;
-    text.push_str("L 0 R -\nL 1 R -\nM 0\n")?;
-    let it = rehearse(heap, Pool::new(), Rows::new(), script.as_str().as_bytes())?;
-    assert_eq!(rt; it.text.as_str(), text.as_str());
+    let script = format!(in heap; "F 2 YY\n{}", edge.line)?;
+    let text = format!(in heap; "{}L 0 R -\nL 1 R -\nM 0\n", edge.printed)?;
+    assert_eq!(rt; rehearsed(heap, script.as_str())?, text);
     Ok(())
 }
 
@@ -98,8 +93,8 @@ fn a_first_line_is_read_exactly(rt: HostRuntime) -> Result<(), Fail> {
         "B\n",
     ];
     for script in &bad {
-        let it = rehearse(rt.alloc(), Pool::new(), Rows::new(), script.as_bytes())?;
-        assert_eq!(rt; it.text.as_str(), "1 16 S\n");
+        let text = rehearsed(rt.alloc(), script)?;
+        assert_eq!(rt; text.as_str(), "1 16 S\n");
     }
     Ok(())
 }
@@ -116,20 +111,10 @@ fn padded(heap: Global, bytes: usize) -> Result<String, Fail> {
 #[test]
 fn an_overlong_script_is_a_bad_line_0(rt: HostRuntime) -> Result<(), Fail> {
     let longest = padded(rt.alloc(), 65_536)?;
-    let it = rehearse(
-        rt.alloc(),
-        Pool::new(),
-        Rows::new(),
-        longest.as_str().as_bytes(),
-    )?;
-    assert_eq!(rt; it.text.as_str(), "2 16 S\nL 0 R -\nL 1 R -\nM 0\n");
+    let text = rehearsed(rt.alloc(), longest.as_str())?;
+    assert_eq!(rt; text.as_str(), "2 16 S\nL 0 R -\nL 1 R -\nM 0\n");
     let overlong = padded(rt.alloc(), 65_537)?;
-    let it = rehearse(
-        rt.alloc(),
-        Pool::new(),
-        Rows::new(),
-        overlong.as_str().as_bytes(),
-    )?;
-    assert_eq!(rt; it.text.as_str(), "0 16 S\n");
+    let text = rehearsed(rt.alloc(), overlong.as_str())?;
+    assert_eq!(rt; text.as_str(), "0 16 S\n");
     Ok(())
 }

@@ -4,4 +4,6 @@
 #[cfg(test)]
 mod edges;
 #[cfg(test)]
+mod plays;
+#[cfg(test)]
 mod trials;

@@ -1,8 +1,5 @@
 // Whole scripts, and what they print.
-use journals::rows::Rows;
-use pool::Pool;
-use script::rehearsal::rehearse;
-use script::work::list_work;
+use crate::plays::{rehearsed, settled};
 use std::test::Fail;
 
 #[derive(Clone, Copy)]
@@ -40,8 +37,8 @@ fn each_script_prints_its_text(rt: HostRuntime) -> Result<(), Fail> {
         },
     ];
     for case in &cases {
-        let it = rehearse(rt.alloc(), Pool::new(), Rows::new(), case.script.as_bytes())?;
-        assert_eq!(rt; it.text.as_str(), case.text);
+        let text = rehearsed(rt.alloc(), case.script)?;
+        assert_eq!(rt; text.as_str(), case.text);
     }
     Ok(())
 }
@@ -63,7 +60,7 @@ fn a_person_is_told_of_what_no_machine_can_settle(rt: HostRuntime) -> Result<(),
         },
     ];
     for case in &cases {
-        let text = list_work(rt.alloc(), Pool::new(), Rows::new(), case.script.as_bytes())?;
+        let text = settled(rt.alloc(), case.script)?;
         assert_eq!(rt; text.as_str(), case.text);
     }
     Ok(())
