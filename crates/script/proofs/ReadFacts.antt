@@ -5,7 +5,7 @@ use Rattle.std.proofs.lemmas.Bool.Decides.{nat_tests}
 use Rattle.std.specs.Option.{option_map}
 use Rattle.protocol.specs.declared.call.Call.{Call}
 use Rattle.protocol.specs.declared.call.Call.TheVariants.{Begin, Step, Deliver, Expire, Stop, Restart}
-use Rattle.script.specs.Reading.{Writable, call_line, chosen, field, no_field, one_field, read_call, two_fields}
+use Rattle.script.specs.Reading.{call_line, chosen, field, no_field, one_field, read_call, two_fields}
 
 nothing : {A : Type 0} (x : A) → None ≡ Some x → ⊥
 nothing x e = let wrong : ◌≡◌ {A = ℕ} 0 1 = cc in omega arith
@@ -73,11 +73,3 @@ module _ (fields : List ℕ) (c : Call) (letter : ℕ) where
 pub line_written : (line : List ℕ) (c : Call) → read_call line ≡ Some c → line ≡ call_line c
 line_written [] c e = absurd (nothing c e)
 line_written (letter ∷ fields) c e = chosen_written fields c letter e
-
-pub reads_again : (call : Call) → Writable call → read_call (call_line call) ≡ Some call
-reads_again Begin fits = refl
-reads_again (Step p) fits = grind (arith, nat_tests)
-reads_again (Deliver q p) fits = grind (arith, nat_tests)
-reads_again (Expire p q) fits = grind (arith, nat_tests)
-reads_again (Stop p) fits = grind (arith, nat_tests)
-reads_again (Restart p) fits = grind (arith, nat_tests)

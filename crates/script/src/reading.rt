@@ -30,16 +30,10 @@ pub fn read_call(line: &[u8]) -> Option<Call>
     ensures value { result ≡ read_call line.now }
     ensures written { IfSome result (λ call. line.now ≡ call_line call) }
 {
-    chosen_call(line)
-}
-
-// The first letter chooses.
-fn chosen_call(line: &[u8]) -> Option<Call>
-    ensures { result ≡ read_call line.now }
-{
     let [letter, fields @ ..] = line else {
         return None;
     };
+    // The first letter chooses.
     match *letter as char {
         'B' if fields.is_empty() => Some(Call::Begin),
         'S' => Some(Call::Step(one_field(fields)?)),

@@ -90,16 +90,11 @@ pub(crate) fn open_script<N: Network, J: Journals>(
     match start_line(script) {
         Ok(start) => {
             let Opening { floor, answer } = open_floor(network, journals, start.first);
-            Started {
-                floor,
-                answer: match answer {
-                    Ok(()) => Ok(start.next),
-                    Err(fault) => Err(ScriptFault {
-                        line: 1,
-                        refusal: fault.into(),
-                    }),
-                },
-            }
+            let answer = answer.map(|()| start.next).map_err(|fault| ScriptFault {
+                line: 1,
+                refusal: fault.into(),
+            });
+            Started { floor, answer }
         }
         Err(fault) => Started {
             floor: closed_floor(network, journals),

@@ -62,12 +62,8 @@ fn push_ledger<N: Network, J: Journals>(
     requires { known (state floor.now) ledger ≡ true }
     ensures { OnOk result (string_bytes text.new ≡ string_bytes text.old ++ ledger_text (state floor.now) ledger) }
 {
-    let Ok(standing) = floor.standing(ledger) else {
-        unreachable!()
-    };
-    let Ok(journals) = floor.journals_with(ledger) else {
-        unreachable!()
-    };
+    let standing = floor.standing(ledger).unwrap();
+    let journals = floor.journals_with(ledger).unwrap();
     push_head(text, ledger, standing)?;
     push_letters(text, journals, ledger)?;
     text.push('\n')

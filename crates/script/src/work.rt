@@ -53,9 +53,7 @@ fn push_work<N: Network, J: Journals>(
         ledger: 0,
         reason: Reason::Uncertain,
     }; 8];
-    let Ok(count) = floor.worklist(&mut notes) else {
-        unreachable!()
-    };
+    let count = floor.worklist(&mut notes).unwrap();
     push_notes(text, &notes[0..count])?;
     writeln!(text, "N {count}")
 }
