@@ -2,4 +2,3 @@ pub mod LineFacts
 pub mod PlayFacts
 pub mod Promised
 pub mod ReadFacts
-pub mod TextFacts

@@ -18,10 +18,8 @@ fn one_field(fields: &[u8]) -> Option<u8>
 fn two_fields(fields: &[u8]) -> Option<(u8, u8)>
     ensures { result ≡ two_fields fields.now }
 {
-    match fields {
-        [b' ', p @ b'0'..=b'9', b' ', q @ b'0'..=b'9'] => Some((*p - b'0', *q - b'0')),
-        _ => None,
-    }
+    let (first, second) = fields.split_at_checked(2)?;
+    Some((one_field(first)?, one_field(second)?))
 }
 
 // The call that a line is, where it is one. A line that reads is the one that would be written.

@@ -36,6 +36,7 @@ pub fn rehearse<N: Network + Drop, J: Journals + Drop>(
     rehearsed(heap, network, journals, script)
 }
 
+// The promises follow from what the floor is afterwards, so they are shown of both endings at once, above.
 fn rehearsed<N: Network + Drop, J: Journals + Drop>(
     heap: Global,
     network: N,

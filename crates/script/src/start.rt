@@ -43,12 +43,8 @@ fn start_line(script: &[u8]) -> Result<StartLine, ScriptFault>
     if script.len() > LIMIT {
         return Err(bad_line(0));
     }
-    let Some(line) = next_line(script, 0) else {
-        return Err(bad_line(1));
-    };
-    let Some(first) = read_first(line.text) else {
-        return Err(bad_line(1));
-    };
+    let line = next_line(script, 0).ok_or(bad_line(1))?;
+    let first = read_first(line.text).ok_or(bad_line(1))?;
     Ok(StartLine {
         first,
         next: line.next,

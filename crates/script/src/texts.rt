@@ -2,7 +2,7 @@
 ghost use Rattle.std.specs.Prelude.{◌≡◌, ◌<◌, ◌≤◌, true, ◌++◌, string_bytes, OnOk};
 ghost use Rattle.floor.specs.State.{state};
 ghost use Rattle.protocol.specs.State.{known};
-ghost use Rattle.script.specs.Texts.{answer_text, end_text, fault_text, head_text, ledger_text, standing_letter};
+ghost use Rattle.script.specs.Texts.{answer_text, end_text, fault_text, ledger_text, standing_letter};
 
 use crate::fault::{ScriptFault, ScriptRefusal};
 use floor::floor::Floor;
@@ -45,14 +45,6 @@ fn standing_letter(standing: Standing) -> char
     }
 }
 
-// Adds the start of the line of a ledger that stands so.
-fn push_head(text: &mut String, ledger: u8, standing: Standing) -> Result<(), AllocError>
-    ensures { OnOk result (string_bytes text.new ≡ string_bytes text.old ++ head_text ledger standing) }
-{
-    let letter = standing_letter(standing);
-    write!(text, "L {ledger} {letter} ")
-}
-
 // Adds the line of one of the floor's ledgers.
 fn push_ledger<N: Network, J: Journals>(
     text: &mut String,
@@ -62,21 +54,22 @@ fn push_ledger<N: Network, J: Journals>(
     requires { known (state floor.now) ledger ≡ true }
     ensures { OnOk result (string_bytes text.new ≡ string_bytes text.old ++ ledger_text (state floor.now) ledger) }
 {
-    let standing = floor.standing(ledger).unwrap();
+    let letter = standing_letter(floor.standing(ledger).unwrap());
     let journals = floor.journals_with(ledger).unwrap();
-    push_head(text, ledger, standing)?;
+    write!(text, "L {ledger} {letter} ")?;
     push_letters(text, journals, ledger)?;
     text.push('\n')
 }
 
 // Adds how the ledgers stand at the end, and the message total.
-#[tactic(auto, using(crate::proofs::TextFacts::texts_none, crate::proofs::TextFacts::texts_more))]
+#[tactic(auto, unfolding(crate::specs::Texts::ledger_texts))]
 pub(crate) fn push_end<N: Network, J: Journals>(
     text: &mut String,
     floor: &Floor<N, J>,
 ) -> Result<(), AllocError>
     ensures { OnOk result (string_bytes text.new ≡ string_bytes text.old ++ end_text (state floor.now)) }
 {
+    // By number: the floor is asked for one ledger after the other.
     for ledger in 0..floor.ledgers() {
         push_ledger(text, floor, ledger as u8)?;
     }

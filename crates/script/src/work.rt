@@ -49,6 +49,7 @@ fn push_work<N: Network, J: Journals>(
 ) -> Result<(), AllocError>
     ensures { OnOk result (string_bytes text.new ≡ string_bytes text.old ++ settle_text (state floor.now)) }
 {
+    // The floor fills the front of a list that its caller keeps.
     let mut notes = [Note {
         ledger: 0,
         reason: Reason::Uncertain,
