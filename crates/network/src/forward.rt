@@ -18,6 +18,7 @@ pub fn forward<N: Network>(network: &mut N, from: Link, to: Link) -> Result<(), 
 }
 
 // Moves as many messages, until a call is refused.
+#[tactic(auto, using(crate::proofs::ForwardFacts::went_on_answer, crate::proofs::ForwardFacts::went_on_after, crate::proofs::ForwardFacts::still_together))]
 pub fn forward_all<N: Network>(
     network: &mut N,
     from: Link,
