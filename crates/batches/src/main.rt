@@ -74,6 +74,7 @@ const EARLY_EXPIRY: [Call; 12] = [
     },
 ];
 
+// By cases: these words are the program's own, and a call is printed otherwise in a script.
 fn print_call(rt: &HostRuntime, call: Call) -> io::Result<()> {
     match call {
         Call::Begin => print!(rt; "begin: "),

@@ -1,7 +1,8 @@
 // How a floor is opened.
-ghost use Rattle.std.specs.Prelude.{◌≡◌, ◌≤◌, true, is_ok, OnOk};
-ghost use Rattle.protocol.specs.Opening.{is_vote, number_at, open_after, open_answer, vote_at, votes_fit, votes_of};
+ghost use Rattle.std.specs.Prelude.{◌≡◌, ◌≤◌, true, is_ok, is_some, OnOk, unwrap_or};
+ghost use Rattle.protocol.specs.Opening.{open_after, open_answer, vote_at, vote_fits, votes_fit, votes_of};
 ghost use Rattle.floor.specs.State.{state};
+ghost use Rattle.network.specs.declared.message.Vote.TheVariants.{Yes};
 ghost use Rattle.promises.specs.Runs.{new};
 
 use super::Floor;
@@ -17,39 +18,28 @@ use protocol::fault::{FloorFault, FloorRefusal};
 use rules::stage::Status;
 use std::array;
 
-// A ledger past the last is as good as one that votes yes.
-fn number_at(votes: &[u8], ledger: usize) -> u8
-    ensures { result ≡ number_at votes.now ledger }
+// A vote is yes (1) or no (2); a ledger past the last is as good as one that votes yes.
+fn vote_at(votes: &[u8], ledger: usize) -> Option<Vote>
+    ensures fits { is_some result ≡ vote_fits votes.now ledger }
+    ensures vote { unwrap_or result Yes ≡ vote_at votes.now ledger }
 {
-    votes.get(ledger).copied().unwrap_or(1)
-}
-
-fn is_vote(number: u8) -> bool
-    ensures { result ≡ is_vote number }
-{
-    number == 1 || number == 2
+    match votes.get(ledger).copied() {
+        None | Some(1) => Some(Vote::Yes),
+        Some(2) => Some(Vote::No),
+        Some(_) => None,
+    }
 }
 
 fn votes_fit(votes: &[u8]) -> bool
     ensures { result ≡ votes_fit votes.now }
 {
-    (0..LEDGERS).all(|ledger| is_vote(number_at(votes, ledger)))
-}
-
-fn vote_at(votes: &[u8], ledger: usize) -> Vote
-    ensures { result ≡ vote_at votes.now ledger }
-{
-    if number_at(votes, ledger) == 2 {
-        Vote::No
-    } else {
-        Vote::Yes
-    }
+    (0..LEDGERS).all(|ledger| vote_at(votes, ledger).is_some())
 }
 
 fn votes_of(votes: &[u8]) -> [Vote; LEDGERS]
     ensures { result ≡ votes_of votes.now }
 {
-    array::from_fn(|ledger| vote_at(votes, ledger))
+    array::from_fn(|ledger| vote_at(votes, ledger).unwrap_or(Vote::Yes))
 }
 
 fn check_opening<N: Network, J: Journals>(
