@@ -1,13 +1,13 @@
 -- The promises hold of a script's own run.
-use Rattle.std.proofs.Common.{◌≡◌, ℕ, ◌≤◌, Bool, true, false, leb, List, [], is_ok, Ok, Err, Result, sym, refl, ap, ◌∙◌, arith}
-use Rattle.std.proofs.lemmas.Bool.{and_parts, cond-true, leb-true}
+use Rattle.std.proofs.Common.{◌≡◌, ℕ, ◌≤◌, true, false, List, [], is_ok, Ok, Err, Result, sym, refl, ap, ◌∙◌, arith}
+use Rattle.std.proofs.lemmas.Bool.{cond-true}
+use Rattle.std.proofs.lemmas.Bool.Decides.{nat_tests}
 use Rattle.journals.specs.Calls.{Entries}
 use Rattle.network.specs.Links.{Links, is_link}
 use Rattle.promises.proofs.Kept.{kept}
 use Rattle.promises.proofs.Opened.{opened_new}
 use Rattle.protocol.specs.Plans.{after_all}
-use Rattle.protocol.specs.Opening.{closed, open_answer, opened, votes_of, well_read}
-use Rattle.protocol.specs.Refusals.{check}
+use Rattle.protocol.specs.Opening.{closed, open_answer, opened, votes_of}
 use Rattle.protocol.specs.State.{State}
 use Rattle.protocol.specs.declared.fault.FloorFault.{FloorFault}
 use Rattle.script.specs.Lines.{Lines}
@@ -16,15 +16,8 @@ use Rattle.script.specs.declared.fault.ScriptFault.{ScriptFault}
 
 module _ (depth : ℕ) (links : Links) (entries : Entries) (deep : 1 ≤ depth) (no_link : (q p : ℕ) → is_link q p ≡ false → links q p ≡ []) (no_ledger : (p : ℕ) → 8 ≤ p → entries p ≡ []) where
   -- an opening that is taken has two to eight ledgers
-  well : (read fresh : Bool) (misread stale : FloorFault) → is_ok (check read misread (check fresh stale (Ok (tt {0})))) ≡ true → read ≡ true
-  well true fresh misread stale ok = refl
-  well false fresh misread stale ok = ok
-
   two_to_eight : (n : ℕ) (votes : List ℕ) → is_ok (open_answer links entries n votes) ≡ true → (2 ≤ n) × (n ≤ 8)
-  two_to_eight n votes ok =
-      let read = well (well_read n votes) _ _ _ ok in
-      let parts = and_parts (leb 2 n) _ read in
-      (leb-true 2 n parts.0, leb-true n 8 (and_parts (leb n 8) _ parts.1).0)
+  two_to_eight n votes ok = (grind (arith, nat_tests), grind (arith, nat_tests))
 
   -- and starts the run
   opened_end : (answer : Result Unit FloorFault) (s : State) (rest : Lines) → is_ok answer ≡ true → played_after depth links entries (with_opening answer s rest) ≡ after_all depth s (calls_of rest.whole)
