@@ -34,5 +34,5 @@ loop-place-preserved g c =
     let all = lines_of (drop c.args.start c.args.script.now) in
     let k = enumerate_count c.loop-place.place-iterator + 2 in
     let next = enumerate_count c.next.new.self + 2 in
-    let left = at_call g.N.Network.DEPTH (state c.args.floor.now) all (string_bytes c.args.text.now) (state c.loop-place.floor) k _ (string_bytes c.loop-place.text) c.loop-place.invariant.2 c.in-Some-call.call more c.raised-answer.result (state c.call.new.self) (c.in-Some.place + 2) next (string_bytes c.push_answer.new.text) (step.0 ∙ ap (λ read. read ∷ more) c.in-Some-call.is) (ap (λ n. n + 2) step.1) (omega (arith, step.2)) (c.raised-answer.ensures ∙ ap raised c.call.ensures.answer) c.call.ensures.after c.in_ok-push_answer.ensures in
+    let left = at_call g.N.Network.DEPTH (state c.args.floor.now) all (string_bytes c.args.text.now) (state c.loop-place.floor) k _ (string_bytes c.loop-place.text) c.loop-place.invariant.2 c.in-Some-call.call more c.raised-answer.result (state c.call.new.self) _ next (string_bytes c.push_answer.new.text) (step.0 ∙ ap (λ read. read ∷ more) c.in-Some-call.is) (omega (arith, step.1)) (omega (arith, step.2)) (c.raised-answer.ensures ∙ ap raised c.call.ensures.answer) c.call.ensures.after c.in_ok-push_answer.ensures in
     ((tt, tt, inl (let few = left.few in omega arith)), tt, left)

@@ -1,4 +1,4 @@
-use Rattle.std.proofs.Common.{◌≡◌, ℕ, List, [], ◌++◌, take, IfSome, Some, None, Option, ap}
+use Rattle.std.proofs.Common.{◌≡◌, ℕ, List, [], ◌++◌, take, IfSome, Some, None, Option, ap, arith}
 use Rattle.std.specs.Option.{option_map}
 use Rattle.script.proofs.start.read_script.Goals as goal
 
@@ -10,4 +10,4 @@ read_all (Some bytes) read limit old new all most same none =
 
 pub returns : goal.returns
 returns g c =
-    read_all (g.R.Read.remaining c.args.source) (g.R.Read.remaining c.take.result.inner) c.take.result.limit c.new-script.result.items c.read_to_end.new.buf.items c.in_ok-read_to_end.ensures.bytes c.take.ensures.limit (ap g.R.Read.remaining c.take.ensures.inner) c.new-script.ensures.items
+    read_all (g.R.Read.remaining c.args.source) (g.R.Read.remaining c.take.result.inner) c.take.result.limit c.new-script.result.items c.read_to_end.new.buf.items c.in_ok-read_to_end.ensures.bytes (omega (arith, c.take.ensures.limit)) (ap g.R.Read.remaining c.take.ensures.inner) c.new-script.ensures.items
