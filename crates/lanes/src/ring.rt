@@ -7,6 +7,8 @@ use network::message::Message;
 // The places of a ring, and so the depth of a lane.
 pub const SLOTS: usize = 4;
 
+// By value, since a library's ring asks for memory; seen by its fields, since a model that forgets where
+// the ring starts could not be copied, and would hide from the lanes' law that it is never longer.
 #[derive(Clone, Copy)]
 pub struct Ring {
     slots: [Message; SLOTS],

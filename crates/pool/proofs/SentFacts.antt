@@ -27,9 +27,6 @@ module _ (q p : ℕ) (sent : List Sent) (start : ℕ) where
   pub link_end : next_of (is_on q p) sent start ≡ None → link_of q p (drop start sent) ≡ []
   link_end e = ap (map message_in) (next_none (is_on q p) sent start e)
 
-pub link_length : (q p : ℕ) (sent : List Sent) → length (link_of q p sent) ≡ length (filter (is_on q p) sent)
-link_length q p sent = rw length-map refl
-
 pub link_push : (q p : ℕ) (sent : List Sent) (s : Sent) → link_of q p (sent ++ (s ∷ [])) ≡ cond (is_on q p s) (link_of q p sent ++ (s.message ∷ [])) (link_of q p sent)
 link_push q p sent s =
     ap (map message_in) (filter-append (is_on q p) sent (s ∷ [])) ∙ map-append message_in (filter (is_on q p) sent) (cond (is_on q p s) (s ∷ []) [])

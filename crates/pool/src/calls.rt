@@ -55,7 +55,6 @@ impl Pool {
         Some(self.table.remove(i).message)
     }
 
-    #[tactic(auto, using(crate::proofs::SentFacts::link_length))]
     fn count_of(&self, link: Link) -> usize
         ensures { result ≡ length (links_of self.now link.sender link.receiver) }
     {

@@ -1,6 +1,6 @@
 // Messages on their way, and the links that they are on.
-ghost use Rattle.std.specs.Prelude.{◌≡◌, filter, length};
-ghost use Rattle.pool.specs.Sent.{is_on};
+ghost use Rattle.std.specs.Prelude.{◌≡◌, length};
+ghost use Rattle.pool.specs.Sent.{is_on, link_of};
 ghost use Rattle.pool.specs.SentOwner.{one_link};
 
 use network::link::Link;
@@ -40,7 +40,10 @@ impl Owned for Sent {
 
 // How many messages are on a link.
 pub fn count_on(sent: &[Sent], link: Link) -> usize
-    ensures { result ≡ length (filter (is_on link.sender link.receiver) sent.now) }
+    ensures { result ≡ length (link_of link.sender link.receiver sent.now) }
 {
-    sent.iter().filter(|sent| sent.belongs_to(&link)).count()
+    sent.iter()
+        .filter(|sent| sent.belongs_to(&link))
+        .map(|sent| sent.message)
+        .count()
 }
