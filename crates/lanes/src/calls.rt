@@ -18,8 +18,9 @@ impl Lanes {
     pub fn new() -> Lanes
         ensures { links_of result ≡ no_links }
     {
+        let ring = Ring::new();
         Lanes {
-            rings: [Ring::new(); RINGS],
+            rings: [ring; RINGS],
         }
     }
 

@@ -12,7 +12,7 @@ impl Vote {
     pub fn number(self) -> u8
         ensures { result ≡ vote_number self }
     {
-        self as u8
+        self as u8 // yes is 1, no is 2
     }
 }
 
@@ -27,7 +27,7 @@ impl Decision {
     pub fn number(self) -> u8
         ensures { result ≡ decision_number self }
     {
-        self as u8
+        self as u8 // post is 1, drop is 2
     }
 }
 
