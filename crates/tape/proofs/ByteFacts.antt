@@ -1,9 +1,8 @@
 -- Laying records as bytes and reading them back.
-use Rattle.std.proofs.Common.{◌≡◌, ℕ, ◌+◌, ◌*◌, ◌/◌, ◌%◌, ◌<◌, ◌≤◌, Bool, true, false, cond, ◌&&◌, eqb, ltb, leb, List, [], ◌∷◌, ◌++◌, length, get_or, take, drop, is_ok, Ok, Err, sym, refl, ap, ◌∙◌, append_assoc, mul-suc, arith}
+use Rattle.std.proofs.Common.{◌≡◌, ℕ, ◌+◌, ◌*◌, ◌/◌, ◌%◌, ◌≤◌, Bool, true, false, cond, ◌&&◌, eqb, ltb, leb, List, [], ◌∷◌, ◌++◌, length, get_or, take, drop, Ok, Err, sym, refl, ap, ◌∙◌, append_assoc, mul-suc, arith}
 use Rattle.std.proofs.lemmas.List.{append-nil}
 use Rattle.std.proofs.lemmas.Bool.{and_parts, and_from, eq-eqb, eqb-true, le-leb, lt-ltb}
 use Rattle.tape.specs.Bytes.{trailer, record_bytes, laid_after, laid, is_next, read_after, read_tape, whole_length}
-use Rattle.journals.specs.Calls.{Entries, append_answer}
 use Rattle.journals.specs.Codes.{is_code, is_ledger}
 use Rattle.tape.specs.Records.{count_of, lawful}
 use Rattle.tape.specs.declared.records.Record.{Record}
@@ -91,19 +90,6 @@ read_tape_lays bytes rs e = by_length (whole_length (length bytes)) e
     by_length : (fits : Bool) → cond fits (read_after [] bytes) (Err (length bytes)) ≡ Ok rs → laid rs ≡ bytes
     by_length true read = let r = read_lays [] bytes rs read in ap laid r.whole ∙ r.lays
     by_length false wrong = absurd (let z : ◌≡◌ {A = ℕ} 0 1 = cc in omega arith)
-
-both_checks : {A B : Type 0} (x : A) (f g : B) (first second : Bool) → is_ok (cond first (cond second (Ok x) (Err f)) (Err g)) ≡ (first && (second && true))
-both_checks x f g true true = refl
-both_checks x f g true false = refl
-both_checks x f g false second = refl
-
--- what a tape answers to four bytes whose trailer is right
-pub right_trailer : (E : Entries) (before : List Record) (ledger code low high : ℕ) → length (E ledger) ≡ count_of ledger before → ledger < 8 → low < 256 → low + high * 256 ≡ trailer before ledger → is_ok (append_answer E ledger code) ≡ is_next before ledger code low high
-right_trailer E before ledger code low high long below small e =
-    let t = trailer before ledger in
-    let lows : low ≡ t % 256 = omega arith in
-    let highs : high ≡ t / 256 = omega arith in
-    rw (lt-ltb ledger 8 below, long, eq-eqb low (t % 256) lows, eq-eqb high (t / 256) highs) (both_checks tt _ _ (is_code code) (ltb (count_of ledger before) 8))
 
 pub read_whole : (bytes : List ℕ) → length bytes ≤ 256 → length bytes % 4 ≡ 0 → read_tape bytes ≡ read_after [] bytes
 read_whole bytes short even =

@@ -80,12 +80,22 @@ module _ (rs : List Record) (law : lawful rs ≡ true) where
       still : (p : ℕ) → p < 8 → count_of p (rs ++ (r ∷ [])) ≤ 8
       still p below = grind (arith, nat_tests, count_push p rs r, few p below)
 
-  pub none_past : (p : ℕ) → 8 ≤ p → filter (is_of p) rs ≡ []
-  none_past p past = none_kept rs (All-weaker (λ r. is_record r ≡ true) (λ r. is_of p r ≡ false) (λ r e. other r (and_parts (is_ledger r.ledger) (is_code r.code) e).0) rs known)
+  all_below : (p : ℕ) → 8 ≤ p → AllByRecursion (λ r. is_of p r ≡ false) rs
+  all_below p past = All-weaker (λ r. is_record r ≡ true) (λ r. is_of p r ≡ false) (λ r e. other r (and_parts (is_ledger r.ledger) (is_code r.code) e).0) rs known
     where
       other : (r : Record) → is_ledger r.ledger ≡ true → is_of p r ≡ false
       other r e = grind (arith, nat_tests)
 
+  pub latest_past : (p : ℕ) → 8 ≤ p → latest p rs ≡ None
+  latest_past p past = none_latest rs 0 (all_below p past)
+    where
+      none_latest : (xs : List Record) (i : ℕ) → AllByRecursion (λ r. is_of p r ≡ false) xs → latest_from i p xs None ≡ None
+      none_latest [] i tt = refl
+      none_latest (x ∷ xs) i h = rw h.0 (none_latest xs (i + 1) h.1)
+
+  pub none_past : (p : ℕ) → 8 ≤ p → filter (is_of p) rs ≡ []
+  none_past p past = none_kept rs (all_below p past)
+    where
       none_kept : (xs : List Record) → AllByRecursion (λ r. is_of p r ≡ false) xs → filter (is_of p) xs ≡ []
       none_kept [] tt = refl
       none_kept (x ∷ xs) h = rw h.0 (none_kept xs h.1)

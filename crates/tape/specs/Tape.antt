@@ -1,5 +1,5 @@
 -- What a tape means.
-use Rattle.std.specs.Prelude.{List, take, Ok, Err, Result}
+use Rattle.std.specs.Prelude.{List, Ok, Err, Result}
 use Rattle.journals.specs.Calls.{Entries}
 use Rattle.tape.specs.Records.{codes_of}
 use Rattle.journals.specs.declared.fault.JournalsFault.{JournalsFault}
@@ -7,7 +7,7 @@ use Rattle.tape.specs.declared.records.Record.{Record}
 use Rattle.tape.specs.declared.Tape.{Tape}
 
 abbrev pub records_of : Tape → List Record
-records_of tape = take tape.len tape.records
+records_of tape = tape.records.items
 
 -- each ledger's codes: those of its records, in the tape's order
 abbrev pub entries_of : Tape → Entries

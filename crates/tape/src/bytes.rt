@@ -1,23 +1,29 @@
 // A tape as bytes: read from them, and written to a buffer.
 ghost use Rattle.std.specs.Prelude.{◌≡◌, ◌+◌, ◌/◌, ◌%◌, ◌<◌, ◌≤◌, [], ◌∷◌, ◌++◌, length, take, drop, IfOk, if◌then◌else◌, Ok};
 ghost use Rattle.tape.specs.Bytes.{is_next, laid, read_tape, torn, trailer, write_after, write_answer};
+ghost use Rattle.tape.specs.Records.{latest};
 ghost use Rattle.tape.specs.Tape.{records_of, told};
 
 use crate::records::Record;
 use crate::{RECORD_BYTES, TAPE_BYTES, Tape};
 use journals::fault::{JournalsFault, JournalsRefusal};
-use journals::limits::LEDGERS;
 use journals::set::Journals;
 
 impl Tape {
-    // The trailer of the ledger's next record.
+    // The number of the ledger's latest record.
+    #[tactic(auto, using(crate::proofs::TapeFacts::none_latest))]
+    fn latest_of(&self, ledger: u8) -> Option<usize>
+        ensures { result ≡ latest ledger (records_of self.now) }
+    {
+        self.tracks.get(ledger as usize)?.latest
+    }
+
+    // The trailer of the ledger's next record. On a tape, a ledger's first record has the trailer 0.
     fn next_trailer(&self, ledger: u8) -> u16
-        requires { ledger < 8 }
         ensures { result ≡ trailer (records_of self.now) ledger }
     {
-        let track = self.tracks[ledger as usize];
-        match track.latest {
-            Some(earlier) => ((self.len - earlier) * RECORD_BYTES) as u16,
+        match self.latest_of(ledger) {
+            Some(earlier) => ((self.records.len() - earlier) * RECORD_BYTES) as u16,
             None => 0,
         }
     }
@@ -27,12 +33,8 @@ impl Tape {
         ensures answer { result ≡ is_next (records_of self.old) ledger code low high }
         ensures after { records_of self.new ≡ (if result then records_of self.old ++ (record { ledger = ledger; code = code } ∷ []) else records_of self.old) }
     {
-        if ledger as usize >= LEDGERS
-            || u16::from_le_bytes([low, high]) != self.next_trailer(ledger)
-        {
-            return false;
-        }
-        self.append(ledger, code).is_ok()
+        u16::from_le_bytes([low, high]) == self.next_trailer(ledger)
+            && self.append(ledger, code).is_ok()
     }
 
     // The set of journals whose tape this is.
@@ -63,21 +65,19 @@ impl Tape {
         ensures after { buffer.new ≡ write_after (records_of self.now) buffer.old }
         ensures again { IfOk result (λ n. read_tape (take n buffer.new) ≡ Ok (records_of self.now)) }
     {
-        let length = RECORD_BYTES * self.len;
+        let length = RECORD_BYTES * self.records.len();
         if length > buffer.len() {
             return Err(JournalsFault::of_none(JournalsRefusal::ShortList));
         }
         let mut before = Tape::new();
-        // By index, since a record's bytes lie at a place counted from its number.
-        for i in 0..self.len {
-            let next = self.records[i];
+        for next in self.records.as_slice() {
             lay_record(
                 buffer,
-                RECORD_BYTES * i,
-                next,
+                RECORD_BYTES * before.len(),
+                *next,
                 before.next_trailer(next.ledger),
             );
-            before.push(next);
+            before.push(*next);
         }
         Ok(length)
     }

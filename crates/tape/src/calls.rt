@@ -7,8 +7,9 @@ ghost use Rattle.tape.specs.Tape.{entries_of, records_of};
 ghost use Rattle.tape.specs.RecordFacts.{at_most_8, codes_known, none_past};
 ghost use Rattle.tape.specs.declared.records.Record.{Record};
 
+use crate::Tape;
 use crate::records::{Record, Track, code_at};
-use crate::{RECORDS, Tape};
+use arrayvec::ArrayVec;
 use journals::fault::{JournalsFault, JournalsRefusal};
 use journals::limits::{ENTRIES, LEDGERS, check_ledger, known_entry};
 use journals::set::Journals;
@@ -19,15 +20,9 @@ impl Tape {
     pub fn new() -> Tape
         ensures { records_of result ≡ [] }
     {
-        let blank = Record { ledger: 0, code: 0 };
-        let track = Track {
-            count: 0,
-            latest: None,
-        };
         Tape {
-            records: [blank; RECORDS],
-            len: 0,
-            tracks: [track; LEDGERS],
+            records: ArrayVec::new(),
+            tracks: [Track::default(); LEDGERS],
         }
     }
 
@@ -35,14 +30,7 @@ impl Tape {
     pub fn len(&self) -> usize
         ensures { result ≡ length (records_of self.now) }
     {
-        self.written().len()
-    }
-
-    // The records, the oldest first.
-    fn written(&self) -> &[Record]
-        ensures { result.now ≡ records_of self.now }
-    {
-        &self.records[0..self.len]
+        self.records.len()
     }
 
     fn count_of(&self, ledger: Ledger) -> usize
@@ -52,6 +40,7 @@ impl Tape {
     }
 
     // Every record comes in here: at most eight of each ledger, so that the 64 places suffice.
+    #[tactic(auto, using(crate::proofs::TapeFacts::space))]
     pub(super) fn push(&mut self, new: Record)
         requires { (is_record new ≡ true) × (length (entries_of self.old new.ledger) < 8) }
         ensures records { records_of self.new ≡ records_of self.old ++ (new ∷ []) }
@@ -60,10 +49,9 @@ impl Tape {
         let ledger = new.ledger as usize;
         let track = Track {
             count: self.tracks[ledger].count + 1,
-            latest: Some(self.len),
+            latest: Some(self.len()),
         };
-        self.records[self.len] = new;
-        self.len += 1;
+        self.records.push(new);
         self.tracks[ledger] = track;
     }
 }
@@ -93,7 +81,7 @@ impl Journals for Tape {
 
     fn read(&self, ledger: u8, place: usize) -> Result<u8, JournalsFault> {
         check_ledger(ledger)?;
-        let code = code_at(self.written(), ledger, place);
+        let code = code_at(self.records.as_slice(), ledger, place);
         code.ok_or(JournalsFault::of(ledger, JournalsRefusal::NothingThere))
     }
 

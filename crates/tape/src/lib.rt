@@ -1,9 +1,10 @@
 // The tape: a set of journals that keeps one list of records for all ledgers.
 #![tactic(auto)]
 
-ghost use Rattle.std.specs.Prelude.{◌≡◌, ℕ, ◌<◌, ◌≤◌, true, length, take, slice_index_or};
+ghost use Rattle.std.specs.Prelude.{◌≡◌, ℕ, ◌<◌, true, length, slice_index_or};
 ghost use Rattle.tape.specs.Records.{lawful, no_track, track_of};
 
+use arrayvec::ArrayVec;
 use journals::limits::LEDGERS;
 use records::{Record, Track};
 
@@ -22,13 +23,11 @@ pub const TAPE_BYTES: usize = 256;
 
 #[derive(Drop)]
 pub struct Tape {
-    // The first `len` places hold the records, the oldest first.
-    records: [Record; RECORDS],
-    len: usize,
+    // The oldest first.
+    records: ArrayVec<Record, RECORDS>,
     // What the records tell of each ledger, so that no call has to count them.
     tracks: [Track; LEDGERS],
-    ghost whole: { (length records ≡ 64) × (length tracks ≡ 8) },
-    ghost within: { len ≤ 64 },
-    ghost kept: { lawful (take len records) ≡ true },
-    ghost tracked: { ((p : ℕ) → p < 8 → slice_index_or tracks p no_track ≡ track_of p (take len records)) },
+    ghost whole: { length tracks ≡ 8 },
+    ghost kept: { lawful records.items ≡ true },
+    ghost tracked: { ((p : ℕ) → p < 8 → slice_index_or tracks p no_track ≡ track_of p records.items) },
 }

@@ -8,7 +8,7 @@ use owned::Owned;
 use owned::of_owner::of_owner;
 
 // One code that a ledger wrote.
-#[derive(Clone, Copy)]
+#[derive(Clone, Copy, Default)]
 pub struct Record {
     pub ledger: u8,
     pub code: u8,
@@ -27,7 +27,7 @@ impl Owned for Record {
 }
 
 // What a list of records tells of one ledger.
-#[derive(Clone, Copy)]
+#[derive(Clone, Copy, Default)]
 pub struct Track {
     pub count: usize,
     // The number of its latest record, counted from 0.
