@@ -20,10 +20,9 @@ impl Tape {
     pub fn new() -> Tape
         ensures { records_of result ≡ [] }
     {
-        Tape {
-            records: ArrayVec::new(),
-            tracks: [Track::default(); LEDGERS],
-        }
+        let records = ArrayVec::new();
+        let tracks = [Track::default(); LEDGERS];
+        Tape { records, tracks }
     }
 
     // How many records the tape has.
