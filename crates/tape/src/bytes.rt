@@ -70,6 +70,7 @@ impl Tape {
             return Err(JournalsFault::of_none(JournalsRefusal::ShortList));
         }
         let mut before = Tape::new();
+        // By place, and not through `chunks_exact_mut`: after that loan only the buffer's length is known.
         for next in self.records.as_slice() {
             lay_record(
                 buffer,
