@@ -78,5 +78,6 @@ fn each_call_refuses_in_its_order(rt: HostRuntime) -> Result<(), Fail> {
         reason: Reason::Uncertain,
     };
     assert_eq!(rt; list, [found, blank, blank]);
+    assert_eq!(rt; list[0].reason.number(), 1);
     Ok(())
 }
