@@ -86,6 +86,7 @@ fn print_call(rt: &HostRuntime, call: Call) -> io::Result<()> {
     }
 }
 
+// By cases, as the calls: the words are the program's own.
 fn answer_word(answer: Answer) -> &'static str {
     match answer {
         Answer::Done => "done",

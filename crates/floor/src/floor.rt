@@ -21,7 +21,7 @@ mod worklist;
 pub struct Floor<N: Network, J: Journals> {
     network: N,
     journals: J,
-    // How many ledgers take part; none where the floor is closed.
+    // How many ledgers take part; none where the floor is closed, so that every call refuses there by its first check.
     ledgers: u8,
     // Beside the rows, as the state that the contracts read has two lists.
     votes: [Vote; LEDGERS],

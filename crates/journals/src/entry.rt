@@ -25,6 +25,7 @@ pub enum Entry {
 pub struct NoEntry(pub u8);
 
 impl Entry {
+    // The entries are numbered by their codes.
     pub fn code(self) -> u8
         ensures { result ≡ code_of self }
     {

@@ -7,7 +7,7 @@ ghost use Rattle.journals.specs.RefusalFacts.{numbers_counted};
 use ledgers::fault::Fault;
 use std::fmt;
 
-// Stands for a ledger where a fault has none.
+// Stands for a ledger where a fault has none: the rules of faults fix this number.
 pub const NO_LEDGER: u8 = 255;
 
 #[derive(Clone, Copy, Debug, PartialEq, Eq)]
@@ -76,6 +76,7 @@ impl Fault for JournalsFault {
     fn number(&self) -> u8
         ensures { result ≡ number_of self.now.refusal }
     {
+        // By cases: only where no variant carries anything may they have numbers of their own.
         match self.refusal {
             JournalsRefusal::UnknownLedger => 2,
             JournalsRefusal::NothingThere => 7,

@@ -74,7 +74,7 @@ pub trait Network {
         ensures value { result ≡ DEPTH }
         ensures bound { 1 ≤ result };
 
-    // Adds the message at the end of the link.
+    // Adds the message at the end of the link. Every call takes any two numbers, and refuses what is no link.
     fn put(&mut self, sender: u8, receiver: u8, message: Message) -> Result<(), NetworkFault>
         ensures answer { result ≡ put_answer DEPTH (links self.old) sender receiver }
         ensures after { links self.new ≡ put_after DEPTH (links self.old) sender receiver message };

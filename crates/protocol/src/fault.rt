@@ -32,12 +32,13 @@ impl FloorRefusal {
 
 #[derive(Clone, Copy, Debug, PartialEq, Eq)]
 pub enum FloorFault {
-    // The floor's own refusal, with the ledgers as called.
+    // The floor's own refusal, with the ledgers as called: two numbers, as in every fault.
     Refused(FloorRefusal, u8, u8),
     Link(NetworkFault),
     Journal(JournalsFault),
 }
 
+// By cases: a fault from below is asked itself.
 impl Fault for FloorFault {
     ghost numbered = { fault_number };
 

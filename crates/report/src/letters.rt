@@ -7,7 +7,7 @@ use journals::codes::codes;
 use journals::set::Journals;
 use std::alloc::AllocError;
 
-// The letters a to j stand for the codes 1 to 10.
+// The letters a to j stand for the codes 1 to 10, in this text alone.
 fn letter_of(code: u8) -> char
     requires { is_code code ≡ true }
     ensures { result ≡ letter code }

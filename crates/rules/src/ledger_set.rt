@@ -4,6 +4,7 @@ ghost use Rattle.rules.specs.Ledgers.{empty, first_missing, with_ledger};
 
 use ledgers::ledger::{LEDGERS, Ledger};
 
+// A flag for each ledger: a set is copied with its row, and asks for no memory.
 #[derive(Clone, Copy, Debug, PartialEq, Eq)]
 pub struct LedgerSet {
     pub members: [bool; LEDGERS],

@@ -31,6 +31,7 @@ pub struct ScriptFault {
     pub refusal: ScriptRefusal,
 }
 
+// By cases: a fault from below is asked itself.
 impl Fault for ScriptFault {
     ghost numbered = { λ fault. number_of fault.refusal };
 

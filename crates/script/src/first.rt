@@ -8,7 +8,7 @@ use arrayvec::ArrayVec;
 
 #[derive(Drop)]
 pub struct FirstLine {
-    // As numbers, one for each ledger.
+    // As numbers, one for each ledger: an opening takes them so, and refuses a wrong one.
     pub votes: ArrayVec<u8, 9>,
 }
 

@@ -34,6 +34,7 @@ pub(crate) fn push_fault(text: &mut String, fault: ScriptFault) -> Result<(), Al
     writeln!(text, "{fault}")
 }
 
+// By cases: the letters are this text's own, and no names of a standing.
 fn standing_letter(standing: Standing) -> char
     ensures { result ≡ standing_letter standing }
 {

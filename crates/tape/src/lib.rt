@@ -25,7 +25,7 @@ pub const TAPE_BYTES: usize = 256;
 pub struct Tape {
     // The oldest first.
     records: ArrayVec<Record, RECORDS>,
-    // What the records tell of each ledger, so that no call has to count them.
+    // Beside the records, what they tell of each ledger, so that no call has to count them.
     tracks: [Track; LEDGERS],
     ghost whole: { length tracks ≡ 8 },
     ghost kept: { lawful records.items ≡ true },

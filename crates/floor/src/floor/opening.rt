@@ -87,7 +87,7 @@ impl<N: Network, J: Journals> Floor<N, J> {
         Opening { floor, answer }
     }
 
-    // Opens a floor over a network and journals that hold nothing yet.
+    // Opens a floor over a network and journals that hold nothing yet. Its parts come one by one: together they are a floor.
     pub fn open(network: N, journals: J, ledgers: u8, votes: &[u8]) -> Opening<N, J>
         ensures answer { result.answer ≡ open_answer (N.links network) (J.entries journals) ledgers votes.now }
         ensures after { state result.floor ≡ open_after (N.links network) (J.entries journals) ledgers votes.now }
