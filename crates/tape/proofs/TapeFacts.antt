@@ -6,14 +6,11 @@ use Rattle.std.proofs.lemmas.Bool.{and_parts, ltb-true, cases_eq, eq-eqb, ne_eqb
 use Rattle.journals.specs.Calls.{Entries, with_entry}
 use Rattle.journals.specs.Codes.{is_code, is_ledger}
 use Rattle.tape.specs.Records.{codes_of, count_of, is_record, latest, lawful, no_track, track_of}
-use Rattle.tape.specs.Tape.{records_of, entries_of}
+use Rattle.tape.specs.Tape.{records_of}
 use Rattle.tape.specs.declared.records.Record.{Record}
 use Rattle.tape.specs.declared.records.Track.{Track}
 use Rattle.tape.specs.declared.Tape.{Tape}
 use Rattle.tape.specs.RecordFacts.{lawful_push, at_most_64, codes_push, latest_past, track_push, record_within, no_ninth}
-
-pub entries_length : (t : Tape) (p : ℕ) → p < 8 → length (entries_of t p) ≡ (get_or t.tracks p no_track).count
-entries_length t p below = sym (ap (λ (k : Track). k.count) (t.tracked p below))
 
 -- the tracks are those of eight ledgers, and no other has a record
 pub none_latest : (t : Tape) (p : ℕ) → 8 ≤ p → None ≡ latest p (records_of t)
