@@ -24,7 +24,7 @@ pub enum JournalsRefusal {
 #[derive(Clone, Copy, Debug, PartialEq, Eq)]
 pub struct JournalsFault {
     pub refusal: JournalsRefusal,
-    // The ledgers as called.
+    // The ledgers as called: two, as the rules of faults have it.
     pub first: u8,
     pub second: u8,
 }
@@ -87,6 +87,7 @@ impl Fault for JournalsFault {
         }
     }
 
+    // One letter for every refusal.
     fn layer(&self) -> char
         ensures { result ≡ 74 }
     {

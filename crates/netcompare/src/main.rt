@@ -47,7 +47,7 @@ fn perform<N: Network>(network: &mut N, call: Call) -> Result<Answer, NetworkFau
     })
 }
 
-// What is printed of an outcome: the refusal's number and the answer's, each 0 where there is none.
+// The two numbers that the output has of an outcome: the refusal's and the answer's, each 0 where there is none.
 fn printed(outcome: Result<Answer, NetworkFault>) -> (u8, usize) {
     match outcome {
         Ok(Answer::Done) => (0, 0),

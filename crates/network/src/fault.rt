@@ -43,7 +43,7 @@ impl Fault for NetworkFault {
         self.refusal as u8
     }
 
-    // The letter of the layer where the fault arose.
+    // The letter of the layer where the fault arose: one for every refusal.
     fn layer(&self) -> char
         ensures { result ≡ 78 }
     {

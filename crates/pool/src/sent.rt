@@ -38,7 +38,7 @@ impl Owned for Sent {
     }
 }
 
-// How many messages are on a link.
+// How many messages are on a link. By the library's filter, which can be counted without a bound on the iterator.
 pub fn count_on(sent: &[Sent], link: Link) -> usize
     ensures { result ≡ length (link_of link.sender link.receiver sent.now) }
 {

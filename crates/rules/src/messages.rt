@@ -11,6 +11,7 @@ use journals::entry::Entry;
 use network::message::{Decision, Message, Vote};
 
 // By a match and not From, which only the crates of these types may give; and each table has entries of its own.
+
 // The entry that says that the ledger is ready with its vote.
 fn ready(vote: Vote) -> Entry
     ensures { result ≡ ready vote }

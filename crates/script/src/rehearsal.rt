@@ -21,7 +21,8 @@ pub struct Rehearsal<N: Network, J: Journals> {
     pub opening: Result<(), ScriptFault>,
 }
 
-// Rehearses a script over this network and these journals. The promises hold of the script's own run.
+// Rehearses a script over this network and these journals, which come as two: together they are a floor.
+// The promises hold of the script's own run.
 pub fn rehearse<N: Network + Drop, J: Journals + Drop>(
     heap: Global,
     network: N,

@@ -6,6 +6,7 @@ ghost use Rattle.script.specs.Work.{note_text, notes_text, reason_text, settle_t
 use crate::rehearsal::{Rehearsal, rehearse};
 use floor::floor::Floor;
 use journals::set::Journals;
+use ledgers::ledger::LEDGERS;
 use network::link::Network;
 use protocol::note::{Note, Reason};
 use std::alloc::{AllocError, Global};
@@ -50,10 +51,7 @@ fn push_work<N: Network, J: Journals>(
     ensures { OnOk result (string_bytes text.new ≡ string_bytes text.old ++ settle_text (state floor.now)) }
 {
     // The floor fills the front of a list that its caller keeps.
-    let mut notes = [Note {
-        ledger: 0,
-        reason: Reason::Uncertain,
-    }; 8];
+    let mut notes = [Note::default(); LEDGERS];
     let count = floor.worklist(&mut notes).unwrap();
     push_notes(text, &notes[0..count])?;
     writeln!(text, "N {count}")

@@ -28,7 +28,7 @@ impl Tape {
         }
     }
 
-    // Takes four bytes as the next record, if they are one: a test, and nothing is told beside it.
+    // Takes four bytes as the next record, and answers whether they are one, as its definition does.
     fn read_record(&mut self, ledger: u8, code: u8, low: u8, high: u8) -> bool
         ensures answer { result ≡ is_next (records_of self.old) ledger code low high }
         ensures after { records_of self.new ≡ (if result then records_of self.old ++ (record { ledger = ledger; code = code } ∷ []) else records_of self.old) }

@@ -14,7 +14,7 @@ use crate::stage::Stage;
 use journals::entry::Entry;
 use network::message::{Decision, Message};
 
-// The entry by which a decision is obeyed.
+// The entry by which a decision is obeyed. By a match, as the tables of the entries that come before it.
 fn obeyed(decision: Decision) -> Entry
     ensures { result ≡ obeyed decision }
 {
