@@ -1,5 +1,6 @@
 // The edges of the format.
 use crate::plays::rehearsed;
+use script::start::read_script;
 use std::alloc::Global;
 use std::process::Abort;
 use std::test::Fail;
@@ -116,5 +117,15 @@ fn an_overlong_script_is_a_bad_line_0(rt: HostRuntime) -> Result<(), Fail> {
     let overlong = padded(rt.alloc(), 65_537)?;
     let text = rehearsed(rt.alloc(), overlong.as_str())?;
     assert_eq!(rt; text.as_str(), "0 16 S\n");
+    Ok(())
+}
+
+#[test]
+fn a_script_is_read_one_byte_past_its_limit(rt: HostRuntime) -> Result<(), Fail> {
+    let short = read_script(rt.alloc(), b"F 2 YY\n".as_slice())?;
+    assert!(rt; short.as_slice() == b"F 2 YY\n".as_slice());
+    let overlong = padded(rt.alloc(), 65_540)?;
+    let read = read_script(rt.alloc(), overlong.as_str().as_bytes())?;
+    assert_eq!(rt; read.len(), 65_537);
     Ok(())
 }
