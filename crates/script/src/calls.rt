@@ -53,6 +53,7 @@ impl Iterator for Calls<'_> {
 }
 
 // Makes the calls from a start on, the first of them line 2, and adds a line for each.
+// The script's bound was checked at its start; it is asked for here alone, where lines are counted.
 pub(crate) fn play_calls<N: Network, J: Journals>(
     text: &mut String,
     floor: &mut Floor<N, J>,

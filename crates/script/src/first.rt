@@ -12,7 +12,7 @@ pub struct FirstLine {
     pub votes: ArrayVec<u8, 9>,
 }
 
-// The number of a vote's letter.
+// The number of a vote's letter, as a script has it.
 fn vote_number(letter: u8) -> Option<u8>
     ensures { result ≡ cond (is_vote letter) (Some (vote_number letter)) None }
 {

@@ -46,7 +46,7 @@ fn standing_letter(standing: Standing) -> char
     }
 }
 
-// Adds the line of one of the floor's ledgers.
+// Adds the line of one of the floor's ledgers: of a floor and a number together, so no type of its own says it.
 fn push_ledger<N: Network, J: Journals>(
     text: &mut String,
     floor: &Floor<N, J>,

@@ -11,7 +11,7 @@ use network::link::Network;
 use protocol::note::{Note, Reason};
 use std::alloc::{AllocError, Global};
 
-// What the person should settle.
+// What the person should settle, in this text's words.
 fn reason_words(reason: Reason) -> &'static str
     ensures { result.now ≡ reason_text reason }
 {
