@@ -33,6 +33,7 @@ impl FloorRefusal {
 #[derive(Clone, Copy, Debug, PartialEq, Eq)]
 pub enum FloorFault {
     // The floor's own refusal, with the ledgers as called: two numbers, as in every fault.
+    // It is made by its variant wherever it arises, which shows the two ledgers there: a function would name them no plainer.
     Refused(FloorRefusal, u8, u8),
     Link(NetworkFault),
     Journal(JournalsFault),
