@@ -1,15 +1,17 @@
 -- What lists of records tell, when one more is written, and what a lawful list keeps to.
-use Rattle.std.specs.Prelude.{◌≡◌, ℕ, suc, ◌+◌, ◌<◌, ◌≤◌, Bool, true, false, cond, List, [], ◌∷◌, ◌++◌, map, length, Some, None, filter, Option, nat_le, slice_index_or, refl}
+use Rattle.std.specs.Prelude.{◌≡◌, ℕ, zero, suc, ◌+◌, ◌-◌, ◌<◌, ◌≤◌, Bool, true, false, cond, List, [], ◌∷◌, ◌++◌, map, length, drop, Some, None, filter, Option, ◌≢◌, nat_le, slice_index_or, refl}
 use Rattle.std.proofs.Common.{⊎_elim, ap, sym, ◌∙◌, add-zero, zero-add, arith}
 use Rattle.std.proofs.lemmas.List.Elements.{filter-append}
 use Rattle.std.proofs.ByRecursion.{All-get_or, All-push, all_kept_by, All-map, All-weaker}
 use Rattle.std.proofs.lemmas.List.{length-append, length-map, map-append, append-nil, get_or_at}
 use Rattle.std.proofs.lemmas.Bool.{and_parts, and_from, leb-true, le-leb, eq-eqb, cases_lt}
 use Rattle.std.proofs.lemmas.Bool.Decides.{nat_tests}
-use Rattle.std.specs.List.{AllByRecursion}
+use Rattle.std.specs.List.{AllByRecursion, slice_get}
 use Rattle.owned.proofs.Crowd.{owned_by, crowd}
+use Rattle.owned.proofs.Kept.{next_some, next_none}
 use Rattle.owned.proofs.EveryFacts.{decides_every, decides_below}
 use Rattle.owned.specs.Every.{every, every_below}
+use Rattle.owned.specs.Search.{next_of}
 use Rattle.journals.specs.Codes.{is_code, is_ledger}
 use Rattle.tape.specs.Records.{is_of, codes_of, count_of, latest_from, latest, is_record, lawful, track_of}
 use Rattle.tape.specs.declared.records.Record.{Record}
@@ -132,3 +134,15 @@ module _ (before : List Record) (r : Record) (after : List Record) (law : lawful
       let all : count_of p (before ++ (r ∷ after)) ≡ count_of p before + count_of p (r ∷ after) = ap (λ ks. length (map (λ (x : Record). x.code) ks)) (filter-append (is_of p) before (r ∷ after)) ∙ simp (map-append, length-append) in
       let own : count_of p (r ∷ after) ≡ suc (count_of p after) = rw (eq-eqb p p refl) in
       omega (arith, at_most_8 (before ++ (r ∷ after)) law p, all, own)
+
+-- what the search tells of the codes that are left
+module _ (p : ℕ) (rs : List Record) (start : ℕ) where
+  pub codes_next : (i : ℕ) (d : Record) → next_of (is_of p) rs start ≡ Some i → codes_of p (drop start rs) ≡ (slice_index_or rs i d).code ∷ codes_of p (drop (i + 1) rs)
+  codes_next i d e = ap (map (λ (r : Record). r.code)) ((next_some (is_of p) rs start i e).splits d)
+
+  pub codes_end : next_of (is_of p) rs start ≡ None → codes_of p (drop start rs) ≡ []
+  codes_end e = ap (map (λ (r : Record). r.code)) (next_none (is_of p) rs start e)
+
+pub nth_ahead : (codes rest : List ℕ) (c left : ℕ) → codes ≡ c ∷ rest → (left ≢ 0) → slice_get codes left ≡ slice_get rest (left - 1)
+nth_ahead codes rest c zero e some = absurd (some refl)
+nth_ahead codes rest c (suc n) e some = let back : n ≡ suc n - 1 = omega arith in ap (λ xs. slice_get xs (suc n)) e ∙ ap (slice_get rest) back
