@@ -1,7 +1,6 @@
 -- What the first line of a script tells: how many ledgers take part, and how they vote.
-use Rattle.std.specs.Prelude.{ℕ, Bool, cond, ◌&&◌, ◌||◌, List, [], ◌∷◌, map, length, Some, None, Option, ◌==◌, nat_le}
+use Rattle.std.specs.Prelude.{ℕ, Bool, cond, ◌&&◌, ◌||◌, List, [], ◌∷◌, map, length, take, Some, None, Option, ◌==◌, nat_le}
 use Rattle.std.specs.List.{list_all}
-use Rattle.arrayvec.specs.ArrayVec.{array_vec_len}
 use Rattle.script.specs.Reading.{digit_of}
 use Rattle.script.specs.declared.first.FirstLine.{FirstLine}
 
@@ -10,7 +9,7 @@ pub record First : Type 0 where
   pub votes : List ℕ
 
 abbrev pub first_of : FirstLine → First
-first_of line = record { ledgers = array_vec_len line.votes; votes = line.votes.items }
+first_of line = record { ledgers = line.ledgers; votes = take line.ledgers line.votes }
 
 -- a vote's letter, Y or N, and its number
 abbrev pub is_vote : ℕ → Bool

@@ -1,15 +1,15 @@
 // The first line of a script: how many ledgers take part, and how they vote.
-ghost use Rattle.std.specs.Prelude.{◌≡◌, ◌≤◌, length, map, cond, Some, None, IfSome};
-ghost use Rattle.arrayvec.specs.ArrayVec.{array_vec_len};
+ghost use Rattle.std.specs.Prelude.{◌≡◌, ◌≤◌, length, map, take, cond, Some, None, IfSome};
 ghost use Rattle.script.specs.First.{all_votes, first_fields, first_of, is_vote, read_first, vote_letters, vote_number};
 ghost use Rattle.std.specs.Option.{option_map};
 
-use arrayvec::ArrayVec;
-
-#[derive(Drop)]
+// With plain places, since a vector of the library's is no `Copy`.
+#[derive(Clone, Copy)]
 pub struct FirstLine {
+    pub ledgers: u8,
     // As numbers, one for each ledger: an opening takes them so, and refuses a wrong one.
-    pub votes: ArrayVec<u8, 9>,
+    // The places behind them stand for nobody.
+    pub votes: [u8; 9],
 }
 
 // The number of a vote's letter, as a script has it.
@@ -23,30 +23,32 @@ fn vote_number(letter: u8) -> Option<u8>
     }
 }
 
-fn read_votes(letters: &[u8]) -> Option<ArrayVec<u8, 9>>
+fn read_votes(letters: &[u8]) -> Option<[u8; 9]>
     requires { length letters.now ≤ 9 }
-    ensures { option_map (λ votes. votes.items) result ≡ cond (all_votes letters.now) (Some (map vote_number letters.now)) None }
+    ensures { option_map (take (length letters.now)) result ≡ cond (all_votes letters.now) (Some (map vote_number letters.now)) None }
 {
-    let mut votes = ArrayVec::new();
-    for letter in letters {
-        votes.push(vote_number(*letter)?);
+    let mut votes = [0; 9];
+    for (place, letter) in letters.iter().enumerate() {
+        votes[place] = vote_number(*letter)?;
     }
     Some(votes)
 }
 
 fn vote_letters(ledgers: u8, letters: &[u8]) -> Option<FirstLine>
     requires { ledgers ≤ 9 }
-    ensures { option_map first_of result ≡ vote_letters ledgers letters.now }
+    ensures value { option_map first_of result ≡ vote_letters ledgers letters.now }
+    ensures few { IfSome result (λ first. first.ledgers ≤ 9) }
 {
     if letters.len() != ledgers as usize {
         return None;
     }
     let votes = read_votes(letters)?;
-    Some(FirstLine { votes })
+    Some(FirstLine { ledgers, votes })
 }
 
 fn first_fields(fields: &[u8]) -> Option<FirstLine>
-    ensures { option_map first_of result ≡ first_fields fields.now }
+    ensures value { option_map first_of result ≡ first_fields fields.now }
+    ensures few { IfSome result (λ first. first.ledgers ≤ 9) }
 {
     match fields {
         [b' ', n @ b'1'..=b'9', b' ', letters @ ..] => vote_letters(*n - b'0', letters),
@@ -57,7 +59,7 @@ fn first_fields(fields: &[u8]) -> Option<FirstLine>
 // What the first line tells, where it is one.
 pub fn read_first(line: &[u8]) -> Option<FirstLine>
     ensures value { option_map first_of result ≡ read_first line.now }
-    ensures few { IfSome result (λ first. array_vec_len first.votes ≤ 9) }
+    ensures few { IfSome result (λ first. first.ledgers ≤ 9) }
 {
     let [letter, fields @ ..] = line else {
         return None;

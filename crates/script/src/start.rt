@@ -30,7 +30,7 @@ pub fn read_script<R: Read + Drop>(heap: Global, source: R) -> io::Result<Vec<u8
 }
 
 // What the first line tells, and where the second one starts.
-#[derive(Drop)]
+#[derive(Clone, Copy)]
 pub struct StartLine {
     pub first: FirstLine,
     pub next: usize,
@@ -38,7 +38,7 @@ pub struct StartLine {
 
 fn start_line(script: &[u8]) -> Result<StartLine, ScriptFault>
     ensures start { started script.now result ≡ start_of script.now }
-    ensures short { IfOk result (λ start. length script.now ≤ 65536) }
+    ensures short { IfOk result (λ start. (length script.now ≤ 65536) × (start.first.ledgers ≤ 9)) }
 {
     if script.len() > LIMIT {
         return Err(bad_line(0));
@@ -68,11 +68,12 @@ fn closed_floor<N: Network, J: Journals>(network: N, journals: J) -> Floor<N, J>
 
 // Opens the floor of a first line.
 fn open_floor<N: Network, J: Journals>(network: N, journals: J, first: FirstLine) -> Opening<N, J>
+    requires { first.ledgers ≤ 9 }
     ensures answer { result.answer ≡ open_answer (N.links network) (J.entries journals) (first_of first).ledgers (first_of first).votes }
     ensures after { state result.floor ≡ open_after (N.links network) (J.entries journals) (first_of first).ledgers (first_of first).votes }
 {
-    let votes = first.votes.as_slice();
-    Floor::open(network, journals, votes.len() as u8, votes)
+    let votes = &first.votes[..first.ledgers as usize];
+    Floor::open(network, journals, first.ledgers, votes)
 }
 
 // Opens the floor that the first line of a script tells of.
