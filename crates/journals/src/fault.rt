@@ -100,10 +100,11 @@ impl fmt::Display for JournalsFault {
     ghost output = { λ fault. Some (fault_text fault) };
 
     fn fmt<W: fmt::Write>(&self, f: &mut fmt::Formatter<W>) -> fmt::Result {
-        write!(f, "{} {}", self.number(), self.layer())?;
+        let number = self.number();
+        let layer = self.layer();
         match self.place() {
-            Some(place) => write!(f, " {place}"),
-            None => Ok(()),
+            Some(place) => write!(f, "{number} {layer} {place}"),
+            None => write!(f, "{number} {layer}"),
         }
     }
 }

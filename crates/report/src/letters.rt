@@ -23,10 +23,12 @@ pub fn push_letters<J: Journals>(
 ) -> Result<(), AllocError>
     ensures { OnOk result (string_bytes out.new ≡ string_bytes out.old ++ letters (J.entries journals.now ledger)) }
 {
-    if codes(journals, ledger).next().is_none() {
+    let mut rest = codes(journals, ledger);
+    let Some(first) = rest.next() else {
         return out.push('-');
-    }
-    for code in codes(journals, ledger) {
+    };
+    out.push(letter_of(first))?;
+    for code in rest {
         out.push(letter_of(code))?;
     }
     Ok(())

@@ -34,7 +34,10 @@ fn push_ledger<J: Journals>(out: &mut String, journals: &J, ledger: u8) -> Resul
     requires { ledger < 10 }
     ensures { OnOk result (string_bytes out.new ≡ string_bytes out.old ++ ledger_line (J.entries journals.now) ledger) }
 {
-    write!(out, "L {ledger} ")?;
+    // By bytes: through the formatter the text of a small tape takes half as long again.
+    out.push_str("L ")?;
+    out.push((b'0' + ledger) as char)?;
+    out.push(' ')?;
     push_letters(out, journals, ledger)?;
     out.push('\n')
 }
